@@ -1,0 +1,5 @@
+pub mod Cycle
+pub mod Periods
+pub mod Text
+pub mod Valid
+pub mod Wiring
