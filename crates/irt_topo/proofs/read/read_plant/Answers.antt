@@ -1,0 +1,14 @@
+use Rattle.irt_topo.proofs.Documents.{document_read, rules_met, only_plant}
+use Rattle.irt_topo.proofs.read.read_plant.Goals as goal
+
+pub returns : goal.returns
+returns c =
+    let answer = c.judged_plant.ensures in
+    let bytes = c.args.bytes.now in
+    let r = c.judged_plant.result in
+    record {
+      answer = answer;
+      document = document_read bytes r answer;
+      rules = rules_met bytes r answer;
+      only = only_plant bytes r answer;
+    }

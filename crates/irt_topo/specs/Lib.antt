@@ -1,0 +1,5 @@
+pub mod Clocks
+pub mod Meets
+pub mod Reading
+pub mod Rules
+pub mod Stated

@@ -1,0 +1,5 @@
+pub mod Building
+pub mod Depth
+pub mod Documents
+pub mod Reread
+pub mod Restated

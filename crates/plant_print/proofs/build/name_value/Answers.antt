@@ -1,0 +1,5 @@
+use Rattle.plant_print.proofs.Building.{name_utf8}
+use Rattle.plant_print.proofs.build.name_value.Goals as goal
+
+pub unreachable-requires : goal.unreachable-requires
+unreachable-requires c = c.in-Err.ensures.cases.0 (name_utf8 c.args.name.now c.requires)

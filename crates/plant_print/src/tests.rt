@@ -1,0 +1,120 @@
+//! Plants read, printed and read back.
+
+use crate::print::print_plant;
+use irt_topo::read::read_plant;
+use std::alloc::Global;
+use std::test::Fail;
+
+const PAIR: &str = r#"factor = 32
+window = 1000
+red_max = 250000
+orange = 0
+clocks = "world"
+device = [
+    { name = "a", mode = "absolute", bmin = 1000, bmax = 3000, ports = [[100, 200]] },
+    { name = "b", mode = "absolute", bmin = 1000, bmax = 3000, ports = [[100, 200]] },
+]
+link = [
+    { from = "a", from_port = 1, to = "b", to_port = 1, delay = 500 },
+]
+demand = [
+    { frame = 0x0100, from = "a", to = ["b"], length = 40, update = 1000000 },
+]
+"#;
+
+const LINE: &str = r#"factor = 32
+window = 1000
+red_max = 250000
+orange = 0
+clocks = "world"
+device = [
+    { name = "a", mode = "absolute", bmin = 1000, bmax = 3000, ports = [[100, 200]] },
+    { name = "s", mode = "absolute", bmin = 1000, bmax = 3000, ports = [[100, 200], [100, 200]] },
+    { name = "b", mode = "absolute", bmin = 1000, bmax = 3000, ports = [[100, 200]] },
+]
+link = [
+    { from = "a", from_port = 1, to = "s", to_port = 1, delay = 500 },
+    { from = "s", from_port = 2, to = "b", to_port = 1, delay = 500 },
+]
+demand = [
+    { frame = 0x0100, from = "a", to = ["b"], length = 40, update = 1000000 },
+]
+"#;
+
+const DRIVES: &str = r#"factor = 32
+window = 1000
+red_max = 250000
+orange = 0
+clocks = "ptcp"
+device = [
+    { name = "c", mode = "absolute", bmin = 1000, bmax = 3000, ports = [[100, 200]] },
+    { name = "d1", mode = "absolute", bmin = 1000, bmax = 3000, ports = [[100, 200], [100, 200]] },
+    { name = "d2", mode = "absolute", bmin = 1000, bmax = 3000, ports = [[100, 200], [100, 200]] },
+    { name = "d3", mode = "absolute", bmin = 1000, bmax = 3000, ports = [[100, 200], [100, 200]] },
+    { name = "d4", mode = "absolute", bmin = 1000, bmax = 3000, ports = [[100, 200], [100, 200]] },
+    { name = "d5", mode = "absolute", bmin = 1000, bmax = 3000, ports = [[100, 200], [100, 200]] },
+    { name = "d6", mode = "absolute", bmin = 1000, bmax = 3000, ports = [[100, 200], [100, 200]] },
+    { name = "d7", mode = "absolute", bmin = 1000, bmax = 3000, ports = [[100, 200], [100, 200]] },
+    { name = "d8", mode = "absolute", bmin = 1000, bmax = 3000, ports = [[100, 200]] },
+]
+link = [
+    { from = "c", from_port = 1, to = "d1", to_port = 1, delay = 500 },
+    { from = "d1", from_port = 2, to = "d2", to_port = 1, delay = 500 },
+    { from = "d2", from_port = 2, to = "d3", to_port = 1, delay = 500 },
+    { from = "d3", from_port = 2, to = "d4", to_port = 1, delay = 500 },
+    { from = "d4", from_port = 2, to = "d5", to_port = 1, delay = 500 },
+    { from = "d5", from_port = 2, to = "d6", to_port = 1, delay = 500 },
+    { from = "d6", from_port = 2, to = "d7", to_port = 1, delay = 500 },
+    { from = "d7", from_port = 2, to = "d8", to_port = 1, delay = 500 },
+]
+demand = [
+    { frame = 0x0100, from = "c", to = ["d1"], length = 40, update = 1000000 },
+    { frame = 0x0101, from = "c", to = ["d2"], length = 40, update = 1000000 },
+    { frame = 0x0102, from = "c", to = ["d3"], length = 40, update = 1000000 },
+    { frame = 0x0103, from = "c", to = ["d4"], length = 40, update = 1000000 },
+    { frame = 0x0104, from = "c", to = ["d5"], length = 40, update = 1000000 },
+    { frame = 0x0105, from = "c", to = ["d6"], length = 40, update = 1000000 },
+    { frame = 0x0106, from = "c", to = ["d7"], length = 40, update = 1000000 },
+    { frame = 0x0107, from = "c", to = ["d8"], length = 40, update = 1000000 },
+    { frame = 0x0108, from = "d1", to = ["c"], length = 40, update = 1000000 },
+    { frame = 0x0109, from = "d2", to = ["c"], length = 40, update = 1000000 },
+    { frame = 0x010a, from = "d3", to = ["c"], length = 40, update = 1000000 },
+    { frame = 0x010b, from = "d4", to = ["c"], length = 40, update = 1000000 },
+    { frame = 0x010c, from = "d5", to = ["c"], length = 40, update = 1000000 },
+    { frame = 0x010d, from = "d6", to = ["c"], length = 40, update = 1000000 },
+    { frame = 0x010e, from = "d7", to = ["c"], length = 40, update = 1000000 },
+    { frame = 0x010f, from = "d8", to = ["c"], length = 40, update = 1000000 },
+]
+[sync]
+send = 4
+timeout = 6
+drift = 5
+stamp = 8
+loss = 0
+"#;
+
+/// Whether a text is a plant's file, and so is what is printed of the plant, which prints the same again.
+fn comes_back(alloc: Global, text: &[u8]) -> bool {
+    let Ok(plant) = read_plant(alloc, text) else {
+        return false;
+    };
+    let Ok(printed) = print_plant(alloc, &plant) else {
+        return false;
+    };
+    let Ok(again) = read_plant(alloc, printed.as_slice()) else {
+        return false;
+    };
+    match print_plant(alloc, &again) {
+        Ok(second) => second.as_slice() == printed.as_slice(),
+        Err(_) => false,
+    }
+}
+
+#[test]
+fn worked_plants_come_back(rt: HostRuntime) -> Result<(), Fail> {
+    let alloc = rt.alloc();
+    assert!(rt; comes_back(alloc, PAIR.as_bytes()));
+    assert!(rt; comes_back(alloc, LINE.as_bytes()));
+    assert!(rt; comes_back(alloc, DRIVES.as_bytes()));
+    Ok(())
+}

@@ -1,0 +1,7 @@
+use Rattle.std.proofs.Common.{◌≡◌, drop}
+use Rattle.toml.specs.View.{items_view}
+use Rattle.plant_shape.specs.Shape.{each_item, rest_of, numbers_of}
+use Rattle.plant_shape.proofs.lists.each_numbers.Given as goal
+
+abbrev pub invariant-loop-value : goal.invariant-loop-value
+invariant-loop-value l = rest_of numbers_of l.entries (items_view (drop l.value-index l.array.items)) ≡ each_item numbers_of (items_view l.array.items)

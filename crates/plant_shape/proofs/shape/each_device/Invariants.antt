@@ -1,0 +1,7 @@
+use Rattle.std.proofs.Common.{◌≡◌, drop}
+use Rattle.toml.specs.View.{items_view}
+use Rattle.plant_shape.specs.Shape.{each_item, rest_of, device_of}
+use Rattle.plant_shape.proofs.shape.each_device.Given as goal
+
+abbrev pub invariant-loop-value : goal.invariant-loop-value
+invariant-loop-value l = rest_of device_of l.devices (items_view (drop l.value-index l.array.items)) ≡ each_item device_of (items_view l.array.items)
