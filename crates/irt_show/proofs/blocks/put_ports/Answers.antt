@@ -1,0 +1,13 @@
+use Rattle.std.proofs.Common.{refl, arith}
+use Rattle.irt_show.specs.Show.{port_line}
+use Rattle.irt_show.proofs.Numbering.{one_more, all_done}
+use Rattle.irt_show.proofs.blocks.put_ports.Goals as goal
+
+pub loop-port-preserved : goal.loop-port-preserved
+loop-port-preserved c = (
+  omega arith,
+  one_more port_line _ _ _ c.args.ports.now c.loop-port.port-index c.loop-port.number _ _ (rw (c.deref.ensures.value, c.in_ok-line.ensures) at c.in_ok-put_bytes.ensures) refl (omega arith) c.loop-port.invariant.1,
+)
+
+pub returns : goal.returns
+returns c = all_done port_line _ _ c.args.ports.now c.loop-port.port-index c.loop-port.number (omega arith) c.loop-port.invariant.1

@@ -1,0 +1,2 @@
+pub mod GlobalLaws
+pub mod SyncLaws
