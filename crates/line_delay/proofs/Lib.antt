@@ -1,0 +1,2 @@
+pub mod HonestLaw
+pub mod MedianLaw

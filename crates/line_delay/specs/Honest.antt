@@ -1,0 +1,34 @@
+-- Responses whose stamps are near the truth.
+use Rattle.std.specs.Prelude.{◌≡◌, ℕ, ◌+◌, ◌≤◌, ℤ, pos, ◌+ℤ◌, ◌-ℤ◌, List, [], ◌∷◌}
+use Rattle.line_delay.specs.Line.{half_round, accepted}
+
+-- two numbers differ by at most so much
+abbrev pub IsNear : ℕ → ℕ → ℕ → Type 0
+IsNear error a b = (a ≤ b + error) × (b ≤ a + error)
+
+-- the four stamps of a response
+pub record Stamps : Type 0 where
+  pub t1 : ℕ
+  pub t2 : ℕ
+  pub t3 : ℕ
+  pub t4 : ℕ
+
+-- What happened over a link of a delay: the true times, each by the clock that stamps it, where the second
+-- clock is ahead of the first by an offset; and each stamp differs from its true time by at most the error.
+pub record IsHonest (error delay : ℕ) (s : Stamps) : Type 0 where
+  pub x1 : ℕ
+  pub x2 : ℕ
+  pub x3 : ℕ
+  pub x4 : ℕ
+  pub ahead : ℤ
+  pub there : pos x2 ≡ pos x1 +ℤ pos delay +ℤ ahead
+  pub back : pos x4 ≡ pos x3 +ℤ pos delay -ℤ ahead
+  pub near1 : IsNear error s.t1 x1
+  pub near2 : IsNear error s.t2 x2
+  pub near3 : IsNear error s.t3 x3
+  pub near4 : IsNear error s.t4 x4
+
+-- the half rounds after these responses
+abbrev pub after_all : List ℕ → List Stamps → List ℕ
+after_all halves [] = halves
+after_all halves (s ∷ more) = after_all (accepted halves (half_round s.t1 s.t2 s.t3 s.t4)) more

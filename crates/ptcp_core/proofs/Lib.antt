@@ -1,0 +1,3 @@
+pub mod MessageLaw
+pub mod RelayLaw
+pub mod SlaveLaw
