@@ -1,0 +1,5 @@
+pub mod CheckLemmas
+pub mod NameLemmas
+pub mod OutcomeLemmas
+pub mod PrintLemmas
+pub mod StepLemmas
