@@ -1,5 +1,8 @@
+pub mod Arrival
 pub mod Occupation
 pub mod Own
+pub mod SendWindow
+pub mod Tree
 pub mod Way
 pub mod Window
 pub mod World

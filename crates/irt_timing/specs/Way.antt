@@ -1,6 +1,7 @@
 -- The way of a frame through the entries of the devices, and when it starts at each.
 use Rattle.std.specs.Prelude.{◌≡◌, ℕ, ◌+◌, ◌*◌, ◌≤◌, ◌==◌, ◌⊎◌, List, Option, Some, option_map, option_and_then, find, slice_get, ℤ, pos, ◌+ℤ◌, IsBitSet}
 use Rattle.irt_base.specs.Cycle.{cycle_time}
+use Rattle.irt_base.specs.Valid.{IsWithin}
 use Rattle.irt_base.specs.Wiring.{peer_of, hop_of}
 use Rattle.irt_base.specs.declared.blocks.Entry.{Entry}
 use Rattle.irt_base.specs.declared.blocks.FrameBlock.{FrameBlock}
@@ -54,3 +55,12 @@ pub data IsStart (setup : Setup) (row : WorldRow) (k frame : ℕ) : ℕ → ℤ 
       ¬ IsAnchor setup device e → IsParent setup frame device e parent port → IsStart setup row k frame parent start →
       hop_of setup.plant parent port ≡ Some hop →
       IsStart setup row k frame device (start +ℤ pos (hop + row.bridge device frame))
+
+-- A relative forwarder sends on what it receives, after its bridge delay.
+abbrev pub IsRelay : Setup → ℕ → Entry → Type 0
+IsRelay setup device e = (¬ IsAnchor setup device e) × ((port : ℕ) × Leaves e port)
+
+-- The bridge delays of a row are in their devices' ranges. Clock errors may be any.
+abbrev pub IsInRange : Setup → WorldRow → Type 0
+IsInRange setup row = (device frame : ℕ) (e : Entry) (d : Device) → entry_at setup device frame ≡ Some e →
+    slice_get setup.plant.devices device ≡ Some d → IsRelay setup device e → IsWithin d.bmin d.bmax (row.bridge device frame)

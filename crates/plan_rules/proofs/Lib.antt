@@ -1,0 +1,10 @@
+pub mod AlongWay
+pub mod Apart
+pub mod Arrivals
+pub mod Held
+pub mod OneWay
+pub mod PortPeriods
+pub mod Sendings
+pub mod Times
+pub mod Wires
+mod WorkedExample

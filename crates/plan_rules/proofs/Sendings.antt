@@ -1,0 +1,93 @@
+-- What accepted blocks say of one frame on the wire.
+use Rattle.std.proofs.Common.{◌≡◌, ℕ, ◌+◌, ◌*◌, ◌%◌, ◌≤◌, List, sym, ◌∙◌, ap, subst, arith, All}
+use Rattle.std.specs.Prelude.{pos, ◌+ℤ◌, ◌≤ℤ◌}
+use Rattle.std.proofs.Math.Nat.{mod-mod_of_dvd, dvd_iff_mod-eq-zero}
+use Rattle.irt_base.specs.Cycle.{IsDue, SharesCycle, wire_time, cycle_time}
+use Rattle.irt_base.specs.Valid.{IsRate, IsRatio}
+use Rattle.irt_base.specs.declared.limits.TheConstants.{PHASES}
+use Rattle.irt_base.specs.declared.blocks.Bundle.{Bundle}
+use Rattle.irt_base.specs.declared.blocks.Entry.{Entry}
+use Rattle.irt_base.specs.declared.blocks.Side.TheVariants.{Tx}
+use Rattle.irt_base.specs.declared.plants.Plant.{Plant}
+use Rattle.irt_timing.specs.World.{WorldRow, IsInStep}
+use Rattle.irt_timing.specs.Window.{IsInWindow}
+use Rattle.irt_timing.specs.Way.{IsInRange}
+use Rattle.irt_timing.specs.SendWindow.{SendWindow, slack_time}
+use Rattle.irt_timing.specs.Occupation.{Occupation, IsOccupation}
+use Rattle.plan_rules.specs.Frames.{IsSending}
+use Rattle.plan_rules.specs.Plan.{IsPlan, setup_of}
+use Rattle.plan_rules.specs.Places.{IsAccepted}
+use Rattle.plan_rules.proofs.AlongWay.{in_step_of, HasDevices, timed}
+use Rattle.plan_rules.proofs.Held.{AreBlocks, held_of, all_at}
+use Rattle.plan_rules.proofs.PortPeriods.{HasCycle, cycle_of, period_of_phase}
+use Rattle.plan_rules.proofs.Times.{IsInBox, boxed, before_orange}
+
+-- a ratio divides the number of phases
+whole_ratio : (r : ℕ) → IsRatio r → PHASES % r ≡ 0
+whole_ratio r is = grind arith
+
+-- a frame that is due in a cycle is due in the one of the first sixteen with its phase
+pub due_in_phase : (k r p : ℕ) → IsRate r p → IsDue k r p → IsDue (k % PHASES) r p
+due_in_phase k r p rate due = ap (λ n. n + 1) (mod-mod_of_dvd r k ((dvd_iff_mod-eq-zero r).1 (whole_ratio r rate.0))) ∙ due
+
+-- two frames that are due in one cycle share one
+pub both_due : (k r p s q : ℕ) → IsRate r p → IsRate s q → IsDue k r p → IsDue k s q → SharesCycle r p s q
+both_due k r p s q first second due also = (k % PHASES, omega arith, due_in_phase k r p first due, due_in_phase k s q second also)
+
+pub devices_of : (plant : Plant) (bundles : List Bundle) → IsPlan plant bundles → IsAccepted plant bundles → HasDevices (setup_of plant bundles)
+devices_of plant bundles plan accepted device frame e at =
+    let held = held_of plant bundles plan accepted device frame e at in (held.blocks.d, held.blocks.is_device)
+
+-- what is known of one frame on the wire
+pub record IsSent (plant : Plant) (bundles : List Bundle) (row : WorldRow) (e : Entry) (o : Occupation) : Type 0 where
+  pub window : SendWindow
+  pub sending : IsSending (setup_of plant bundles) o.device o.port o.frame e window
+  pub anchor_in_step : IsInStep plant row window.anchor
+  pub in_step : IsInStep plant row o.device
+  pub inside : IsInWindow o.start (pos (o.cycle * cycle_time plant.factor)) (row.error window.anchor) (pos window.lo) (pos window.hi)
+  pub ends : o.end ≡ (o.start +ℤ pos (wire_time e.data_length))
+  pub rate : IsRate e.ratio e.phase
+  pub blocks : AreBlocks plant bundles o.device
+  pub cycle : HasCycle plant blocks.bundle o.port o.cycle
+  pub red : window.hi + wire_time e.data_length + slack_time plant.window o.device window.anchor ≤ cycle.tx.orange
+
+pub sent_of : (plant : Plant) (bundles : List Bundle) → IsPlan plant bundles → IsAccepted plant bundles → (world : List WorldRow) →
+    All (IsInRange (setup_of plant bundles)) world → (o : Occupation) → (is : IsOccupation (setup_of plant bundles) world o) → IsSent plant bundles is.row is.entry o
+sent_of plant bundles plan accepted world ranges o is =
+    let setup = setup_of plant bundles in
+    let range = all_at (IsInRange setup) world o.cycle is.row ranges is.in_cycle in
+    let t = timed setup plan.rules (devices_of plant bundles plan accepted) is.row range o.cycle o.frame o.device o.start is.starts is.live
+    (record { entry = is.entry; stands = is.stands; port = o.port; leaves = is.leaves }) in
+    let held = held_of plant bundles plan accepted o.device o.frame is.entry is.stands in
+    let tree = (accepted.trees (record { device = record { 0 = o.device }; port = 0; frame = o.frame; other = 0 })).each is.entry is.stands in
+    let receiver = tree.2.sent o.port is.leaves in
+    let cycle = cycle_of plant bundles plan accepted o.device o.port receiver.receiver receiver.e.rx_port o.cycle held.blocks receiver.leads in
+    let sending : IsSending setup o.device o.port o.frame is.entry t.window = record { stands = is.stands; leaves = is.leaves; sends = t.has } in
+    record {
+      window = t.window;
+      sending = sending;
+      anchor_in_step = t.in_step;
+      in_step = in_step_of setup is.row o.frame o.device is.live;
+      inside = t.inside;
+      ends = is.ends;
+      rate = held.valid.rate;
+      blocks = held.blocks;
+      cycle = cycle;
+      red = (accepted.sent (record { device = record { 0 = o.device }; port = o.port; frame = o.frame; other = 0 }) is.entry t.window held.blocks.bundle
+          (o.cycle % PHASES) cycle.tx sending held.blocks.held (omega arith) (due_in_phase o.cycle is.entry.ratio is.entry.phase held.valid.rate is.due)
+          (period_of_phase held.blocks.bundle.periods o.port o.cycle Tx ∙ cycle.sends)).1;
+    }
+
+pub box_of : (plant : Plant) (bundles : List Bundle) (row : WorldRow) (e : Entry) (o : Occupation) → IsSent plant bundles row e o →
+    IsInBox (cycle_time plant.factor) plant.window o.cycle o.start o.end
+box_of plant bundles row e o s =
+    boxed (cycle_time plant.factor) plant.window o.cycle s.window.lo s.window.hi (wire_time e.data_length) (row.error s.window.anchor) o.start o.end
+    s.inside s.anchor_in_step s.ends (omega (arith, s.red, s.cycle.ordered.sending.orange, s.cycle.ordered.guard))
+
+-- the frame's end and the sender's orange period
+pub ends_before_orange : (plant : Plant) (bundles : List Bundle) (row : WorldRow) (e : Entry) (o : Occupation) → (s : IsSent plant bundles row e o) →
+    o.end ≤ℤ (pos (o.cycle * cycle_time plant.factor + s.cycle.tx.orange) +ℤ row.error o.device)
+ends_before_orange plant bundles row e o s =
+    subst (λ x. x ≤ℤ (pos (o.cycle * cycle_time plant.factor + s.cycle.tx.orange) +ℤ row.error o.device)) (sym s.ends)
+    (before_orange plant.window (o.cycle * cycle_time plant.factor) s.window.lo s.window.hi (wire_time e.data_length) s.cycle.tx.orange o.device s.window.anchor
+    row.error o.start s.inside s.anchor_in_step s.in_step s.red)
