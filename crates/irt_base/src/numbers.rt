@@ -8,7 +8,7 @@ pub type Ns = i64;
 pub struct DevId(pub u8);
 
 /// A port of a device, from 1.
-#[derive(Clone, Copy, Debug, PartialEq, Eq, PartialOrd, Ord)]
+#[derive(Clone, Copy, Debug, PartialEq, Eq, PartialOrd, Ord, Default)]
 pub struct PortNo(pub u8);
 
 /// A FrameID (IEC 61158-6-10: RT_CLASS_3 has 0x0100..0x0FFF).

@@ -1,0 +1,11 @@
+pub mod WalkLaws
+pub mod WayLaws
+pub mod Follow
+pub mod Growth
+pub mod Distances
+pub mod TreeLaws
+pub mod ClockLaws
+pub mod Places
+pub mod RouteLaws
+pub mod TableLaws
+pub mod Fronts

@@ -1,0 +1,15 @@
+//! The walks of frames and parcels, and the tree by which clocks follow.
+#![tactic(auto)]
+
+pub mod clocks;
+pub mod fault;
+pub mod laws;
+pub mod network;
+pub mod routing;
+pub mod tables;
+#[cfg(test)]
+mod tests;
+pub mod trees;
+pub mod unreached;
+pub mod walks;
+pub mod ways;

@@ -1,0 +1,6 @@
+//! What is at the other end of a port, and how long a hop there takes, found in constant time.
+#![tactic(auto)]
+
+pub mod index;
+#[cfg(test)]
+mod tests;
