@@ -6,7 +6,6 @@ use Rattle.irt_block.specs.declared.fault.BlockKind.{BlockKind}
 use Rattle.irt_block.specs.declared.fault.BlockKind.TheVariants as kinds
 use Rattle.irt_block.specs.declared.extent.Extent.{Extent}
 use Rattle.irt_block.specs.declared.bytes.ByteClass.{ByteClass}
-use Rattle.irt_block.specs.declared.bytes.ByteClass.TheVariants as classes
 use Rattle.irt_block.specs.Reading.{◌>>=◌, Reader, Fails, fault_at, is_of, kind_of, bytes_pass, repeat_at}
 
 -- a fault of a part is that of the whole, want of memory aside
@@ -19,6 +18,17 @@ fails_on kinds.BadVersion e part whole h go = go h
 fails_on kinds.BadPad e part whole h go = go h
 fails_on kinds.BadValue e part whole h go = go h
 fails_on kinds.Trailing e part whole h go = go h
+
+-- a fault of a reader that takes no memory
+pub fails_so : {A : Type 0} (kind : BlockKind) (e : BlockFault) (read : Result A BlockFault) → read ≡ Err e → Fails kind e read
+fails_so kinds.NoMemory e read h = tt
+fails_so kinds.Short e read h = h
+fails_so kinds.BadType e read h = h
+fails_so kinds.BadLength e read h = h
+fails_so kinds.BadVersion e read h = h
+fails_so kinds.BadPad e read h = h
+fails_so kinds.BadValue e read h = h
+fails_so kinds.Trailing e read h = h
 
 -- ---- bytes of a class
 
@@ -41,10 +51,6 @@ pub byte_fails : (class : ByteClass) (n at : ℕ) (extent : Extent) (rest : List
     is_of class (get_or rest at 0) ≡ false → bytes_pass class (n - at) extent (drop at rest) ≡ total → total ≡ Err (fault_at (kind_of class) ((extent.end - length rest) + at))
 byte_fails class n at extent rest total lt long inside bad so_far =
     sym so_far ∙ byte_there class n at extent rest lt long inside ∙ rw bad refl
-
-pub class_fault : (class : ByteClass) (e : BlockFault) (total : Result (Unit {0}) BlockFault) → total ≡ Err e → Fails (kind_of class) e total
-class_fault classes.Zero e total h = h
-class_fault classes.Letter e total h = h
 
 -- ---- an item as often as a count says
 

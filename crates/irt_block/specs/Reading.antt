@@ -16,7 +16,12 @@ abbrev pub ◌>>=◌ : {A B : Type 0} → Result A BlockFault → (A → Result 
 (Ok x) >>= f = f x
 (Err e) >>= f = Err e
 
--- What a function returned, seen by view, is what reading gives, unless memory ran out.
+-- What a function returned, seen by view, is what reading gives.
+abbrev pub Answers : {X Y : Type 0} → (X → Y) → Result X BlockFault → Result Y BlockFault → Type 0
+Answers view (Ok x) read = read ≡ Ok (view x)
+Answers view (Err e) read = read ≡ Err e
+
+-- The same of a function that takes memory: unless memory ran out.
 abbrev pub Fails : {Y : Type 0} → BlockKind → BlockFault → Result Y BlockFault → Type 0
 Fails kinds.NoMemory e read = Unit {0}
 Fails kinds.Short e read = read ≡ Err e

@@ -1,7 +1,7 @@
 //! Block headers.
 
 ghost use Rattle.std.specs.Prelude.{◌≡◌, ◌≤◌, ◌<◌, ◌+◌, ◌-◌, ◌^◌, ◌++◌, length, min, take, drop, IfOk};
-ghost use Rattle.irt_block.specs.Reading.{Gives, fault_at, input_of};
+ghost use Rattle.irt_block.specs.Reading.{Answers, fault_at, input_of};
 ghost use Rattle.irt_block.specs.Header.{header_at, open_at, header_bytes, end_of};
 
 use crate::extent::{Extent, Holder};
@@ -36,7 +36,6 @@ fn size_of_block(extent: Extent, rest: &[u8], id: BlockId) -> Result<usize, Bloc
     requires inside { length rest.now ≤ extent.end }
     requires near { min extent.end (extent.end - length rest.now + 65540) < 2 ^ 32 }
     ensures exact { result ≡ header_at id extent rest.now }
-    ensures gives { Gives (λ n. n) result (header_at id extent rest.now) }
     ensures least { IfOk result (λ n. 6 ≤ n) }
     ensures there { IfOk result (λ n. n ≤ length rest.now) }
     ensures most { IfOk result (λ n. n < 65540) }
@@ -72,7 +71,7 @@ fn fault(kind: BlockKind, offset: u32) -> BlockFault
 pub fn open_block<'a>(extent: Extent, rest: &'a [u8], id: BlockId) -> Result<Opened<'a>, BlockFault>
     requires inside { length rest.now ≤ extent.end }
     requires near { min extent.end (extent.end - length rest.now + 65540) < 2 ^ 32 }
-    ensures gives { Gives (λ b. (b.extent, (b.fields.now, b.after.now))) result (open_at id extent rest.now) }
+    ensures gives { Answers (λ b. (b.extent, (b.fields.now, b.after.now))) result (open_at id extent rest.now) }
     ensures inside { IfOk result (λ b. length b.fields.now ≤ b.extent.end) }
     ensures fits { IfOk result (λ b. b.extent.end < 2 ^ 32) }
     ensures end { IfOk result (λ b. b.extent.end ≤ extent.end) }

@@ -1,5 +1,5 @@
 -- The periods of a device are a codec.
-use Rattle.std.proofs.Common.{◌≡◌, ℕ, ◌+◌, ◌*◌, ◌^◌, ◌≤◌, ◌<◌, List, ◌++◌, length, lit<, Result, Ok, Err, refl, sym, ap, subst, ◌∙◌, append_assoc, arith}
+use Rattle.std.proofs.Common.{◌≡◌, ℕ, ◌^◌, ◌≤◌, ◌<◌, List, ◌++◌, length, lit<, Result, Ok, Err, refl, sym, ap, subst, ◌∙◌, append_assoc, arith}
 use Rattle.std.specs.Prelude.{replicate, IfOk}
 use Rattle.std.specs.List.{AllByRecursion, flat_map}
 use Rattle.std.proofs.lemmas.List.{length-append}
@@ -12,11 +12,11 @@ use Rattle.irt_base.specs.declared.blocks.PeriodBlock.{PeriodBlock}
 use Rattle.irt_base.specs.Valid.{IsWithin, IsPeriod, IsAssignment, IsPhasePair, IsPortPeriods, IsPeriodBlock}
 use Rattle.irt_block.specs.declared.fault.BlockFault.{BlockFault}
 use Rattle.irt_block.specs.declared.extent.Extent.{Extent}
-use Rattle.irt_block.specs.Reading.{◌>>=◌, Reader, Gives, spelled, within}
+use Rattle.irt_block.specs.Reading.{◌>>=◌, Gives, spelled, within}
 use Rattle.irt_block.specs.Header.{whole_of}
 use Rattle.irt_block.proofs.Numbers.{IsBytes, two_bytes, four_bytes}
 use Rattle.irt_block.proofs.Rules.{within_rule, within_again, below_rule, below_again, all_so, length-items, length-items-most, given, both, spelled_size, zeros_size}
-use Rattle.irt_block.proofs.Codec.{Codec, number, ruled, constant, padding, pair, pair_steps, repeat, view, IsView}
+use Rattle.irt_block.proofs.Codec.{Codec, number, ruled, constant, padding, pair, pair_steps, repeat, view}
 use Rattle.irt_block.proofs.Blocks.{block, ended, whole_takes}
 use Rattle.pdir_begin_end.specs.Periods.{periods_id, period_bytes, assignment_bytes, phase_bytes, port_bytes, fields_bytes, periods_bytes, is_below, period_at, assignment_at, phase_at, port_at, fields_at, periods_in}
 

@@ -1,5 +1,5 @@
 -- PDIRBeginEndData: the one spelling of a device's periods, and their reading from left to right.
-use Rattle.std.specs.Prelude.{ℕ, Bool, nat_lt, List, ◌++◌, length, replicate, Result, Ok, Err}
+use Rattle.std.specs.Prelude.{ℕ, Bool, nat_lt, List, ◌++◌, length, replicate, Ok}
 use Rattle.std.specs.List.{flat_map}
 use Rattle.irt_base.specs.declared.limits.TheConstants.{MIN_FRAME, MAX_RED_FRAME, MAX_PORTS, MAX_ASSIGNMENTS, PHASES}
 use Rattle.irt_base.specs.declared.blocks.Period.{Period}

@@ -3,11 +3,12 @@ use Rattle.std.proofs.Common.{◌≡◌, ℕ, ◌≤◌, true, List, lit<, Ok, r
 use Rattle.std.proofs.lemmas.Bool.Decides.{nat_tests}
 use Rattle.irt_base.specs.declared.limits.TheConstants.{MIN_FRAME, MAX_FRAME, MAX_PORTS}
 use Rattle.irt_base.specs.declared.blocks.Entry.{Entry}
-use Rattle.irt_base.specs.Valid.{IsWithin, IsDataLength, IsRatio, IsEntry}
+use Rattle.irt_base.specs.Valid.{IsDataLength, IsRatio, IsEntry}
 use Rattle.irt_block.specs.declared.extent.Extent.{Extent}
 use Rattle.irt_block.specs.Reading.{◌>>=◌, within}
 use Rattle.irt_block.proofs.Numbers.{one_byte, two_bytes, four_bytes}
 use Rattle.irt_block.proofs.Codec.{Codec, number, ruled, constant, padding, pair, pair_steps, view}
+use Rattle.irt_block.proofs.Rules.{within_rule, within_again}
 use Rattle.pdir_frame.specs.declared.entry.TheConstants.{ETHERTYPE, FRAME_DETAILS, TX_PORT_GROUPS}
 use Rattle.pdir_frame.specs.Frames.{entry_bytes, is_data_length, is_ratio, entry_at}
 
@@ -27,12 +28,6 @@ ratio_again n h = grind (arith, nat_tests)
 
 pub ratio_most : (n : ℕ) → IsRatio n → n ≤ 16
 ratio_most n h = grind arith
-
-pub within_rule : (low high n : ℕ) → within low high n ≡ true → IsWithin low high n
-within_rule low high n h = grind (arith, nat_tests)
-
-pub within_again : (low high n : ℕ) → IsWithin low high n → within low high n ≡ true
-within_again low high n h = grind (arith, nat_tests)
 
 -- ---- an entry
 

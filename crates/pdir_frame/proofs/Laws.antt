@@ -19,7 +19,8 @@ use Rattle.irt_block.proofs.Steps.{bind_ok, ok_is, chosen, Takes, Takes-then}
 use Rattle.irt_block.proofs.Codec.{Codec, ruled, padding, pair_steps}
 use Rattle.irt_block.proofs.Blocks.{Body, before, block, body_view, whole_takes}
 use Rattle.pdir_frame.specs.Frames.{frames_id, entry_bytes, properties_of, fields_bytes, frame_bytes, entry_at, entries_at, fields_at, frames_in}
-use Rattle.pdir_frame.proofs.Entries.{entry_codec, within_rule}
+use Rattle.irt_block.proofs.Rules.{within_rule}
+use Rattle.pdir_frame.proofs.Entries.{entry_codec}
 
 -- ---- entries
 
