@@ -1,0 +1,4 @@
+pub mod Scanning
+pub mod Repeating
+pub mod FrameScan
+pub mod PortScan

@@ -1,0 +1,11 @@
+pub mod Bits
+pub mod Finding
+pub mod Found
+pub mod InTree
+pub mod NewWays
+pub mod NoWays
+pub mod Numbering
+pub mod Places
+pub mod Reading
+pub mod Steps
+pub mod Tabled

@@ -1,0 +1,7 @@
+use Rattle.std.proofs.Common.{ℕ, ◌<◌}
+use Rattle.irt_timing.specs.Tree.{IsInTree}
+use Rattle.irt_window.specs.Plans.{setup_in}
+use Rattle.irt_window.proofs.rules.device_break.Given as goal
+
+abbrev pub invariant-loop-frame : goal.invariant-loop-frame
+invariant-loop-frame l = (frame : ℕ) → frame < l.frame → IsInTree (setup_in l.net) l.device.0 frame

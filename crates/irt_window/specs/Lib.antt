@@ -1,0 +1,10 @@
+pub mod Behind
+pub mod Demands
+pub mod Marks
+pub mod Parents
+pub mod Plans
+pub mod Rules
+pub mod Search
+pub mod Tables
+pub mod Trees
+pub mod Windows

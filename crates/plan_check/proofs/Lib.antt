@@ -1,0 +1,3 @@
+pub mod Answering
+pub mod ClockBreaks
+pub mod Composing

@@ -1,0 +1,5 @@
+pub mod Late
+pub mod Numbers
+pub mod Order
+pub mod Settled
+pub mod Verdicts

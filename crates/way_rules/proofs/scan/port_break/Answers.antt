@@ -1,0 +1,26 @@
+use Rattle.std.proofs.lemmas.Bool.{iff_false}
+use Rattle.way_rules.proofs.Entries.{placed_at, port_more, port_holds, port_breaks}
+use Rattle.way_rules.proofs.scan.port_break.Goals as goal
+
+pub holds-requires-clause-placed : goal.holds-requires-clause-placed
+holds-requires-clause-placed g c =
+    placed_at c.args.plant.now c.args.bundles.now c.args.ways.now c.args.device.0 _ _ _ _ _ c.requires.plan c.row_of.ensures c.loop-index-test.true
+
+pub returns-then-not-holds : goal.returns-then-not-holds
+returns-then-not-holds g c =
+    port_breaks c.args.plant.now c.args.bundles.now c.args.ways.now c.args.device c.args.port.0 _ _ _ _
+    (g.R.EntryRule.Holds c.args.plant.now c.args.bundles.now)
+    (g.met.R.EntryRule.absent c.args.plant.now c.args.bundles.now c.args.device.0 c.args.port.0) c.requires.plan.plan
+    c.row_of.ensures c.loop-index-test.true c.loop-index.invariant (iff_false c.holds.ensures c.if-not-holds.true)
+
+pub loop-index-preserved : goal.loop-index-preserved
+loop-index-preserved g c =
+    port_more (g.R.EntryRule.Holds c.args.plant.now c.args.bundles.now c.args.device.0 c.args.port.0) _ _ _ c.loop-index.invariant
+    c.loop-index-test.true (c.holds.ensures.0 c.if-not-holds.false)
+
+pub returns : goal.returns
+returns g c =
+    port_holds c.args.plant.now c.args.bundles.now c.args.ways.now c.args.device.0 c.args.port.0 _ _ _
+    (g.R.EntryRule.Holds c.args.plant.now c.args.bundles.now)
+    (g.met.R.EntryRule.absent c.args.plant.now c.args.bundles.now c.args.device.0 c.args.port.0) c.row_of.ensures
+    c.loop-index-test.false c.loop-index.invariant
