@@ -1,112 +1,111 @@
--- Why ACCEPT is safe, and how the steps of `check` follow each other.
-use Rattle.std.proofs.Common.{◌≡◌, ◌≤◌, ℕ, zero, suc, ◌+◌, List, [], ◌∷◌, length, Option, Some, None, Result, Ok, Err, Bool, true, false, cond, refl, sym, ◌∙◌, ap, subst, arith, find, nat_eq, nat_lt, OnOk}
+-- How the steps of commands follow each other.
+use Rattle.std.proofs.Common.{◌≡◌, ◌<◌, ℕ, zero, suc, ◌+◌, List, [], ◌∷◌, ◌++◌, length, Option, Some, None, inl, Result, Ok, Err, refl, sym, ◌∙◌, ap, subst, arith, drop, slice_get, get_or}
 use Rattle.std.specs.Global.{Vec}
-use Rattle.std.specs.List.{AllByRecursion}
-use Rattle.std.proofs.lemmas.Bool.{eqb-true}
-use Rattle.irt_base.specs.Cycle.{wire_time, cycle_time, guard_time}
-use Rattle.irt_base.specs.Valid.{IsEntry, IsFrameBlock}
-use Rattle.irt_base.specs.declared.limits.TheConstants.{PLANT_FILE}
-use Rattle.irt_base.specs.declared.blocks.Entry.{Entry}
-use Rattle.irt_base.specs.declared.blocks.FrameBlock.{FrameBlock}
-use Rattle.irt_base.specs.declared.plants.Plant.{Plant}
+use Rattle.std.specs.List.{All}
+use Rattle.std.proofs.lemmas.List.Elements.{All-append}
+use Rattle.irt_base.specs.Valid.{IsBundle}
 use Rattle.irt_io.specs.Files.{Files}
-use Rattle.irt_timing.specs.Own.{IsOwnFrame, IsOwnPlan}
-use Rattle.irt_timing.specs.Way.{Setup, entry_at}
-use Rattle.irt_topo.specs.Meets.{MeetsRules}
-use Rattle.irt_topo.specs.Reading.{plant_of}
-use Rattle.irt_main.specs.declared.stop.Stop.{Stop}
-use Rattle.irt_main.specs.Accept.{IsEntryOf, IsSafeFile, NeverCollides}
-use Rattle.irt_main.specs.Check.{Accepts, IsSafe, check_of, sender_of, plant_at}
-use Rattle.irt_main.specs.Step.{Ending, Told, Follows, after, gives, bytes_of, load_of}
+use Rattle.irt_base.specs.declared.blocks.Bundle.{Bundle}
+use Rattle.irt_base.specs.declared.plants.Device.{Device}
+use Rattle.irt_base.specs.declared.plants.Plant.{Plant}
+use Rattle.irt_steps.specs.declared.stop.Stop.{Stop}
+use Rattle.irt_steps.specs.declared.stop.Stop.TheVariants as stops
+use Rattle.irt_steps.specs.Steps.{ending, gives}
+use Rattle.irt_steps.specs.Follow.{Follows, Decides, IsEnding}
+use Rattle.irt_steps.proofs.StepLemmas.{follow_on, follow_stop, follow_decided}
+use Rattle.plan_rules.specs.Plan.{IsPlan}
+use Rattle.plan_rules.specs.Places.{IsReject}
+use Rattle.plan_rules.specs.declared.place.Reject.{Reject}
+use Rattle.irt_main.specs.Commands.{device_steps, bundles_steps, verdict_steps, name_of, IsJudged}
+use Rattle.irt_main.specs.Lines.{reject_line}
 
--- ---- one sender
+-- a device that was looked up
+pub found_device : (devices : List Device) (n m : ℕ) (d other : Device) → n < length devices → d ≡ get_or devices n other → n ≡ m → slice_get devices m ≡ Some d
+found_device devices n m d other within is same = subst (λ k. slice_get devices k ≡ Some d) same (found_at devices n d other within is)
+  where
+    found_at : (devices : List Device) (n : ℕ) (d other : Device) → n < length devices → d ≡ get_or devices n other → slice_get devices n ≡ Some d
+    found_at [] n d other within is = absurd (omega arith)
+    found_at (e ∷ devices) zero d other within is = ap Some (sym is)
+    found_at (e ∷ devices) (suc n) d other within is = found_at devices n d other (omega arith) is
 
-some_at : (b : Bool) (e x : Entry) → cond b (Some e) None ≡ Some x → (b ≡ true) × (x ≡ e)
-some_at true e x is = (refl, cc)
-some_at false e x is = absurd cc
+-- the first of the devices that are left
+next_device : (devices : List Device) (n : ℕ) (d : Device) → slice_get devices n ≡ Some d → drop n devices ≡ d ∷ drop (suc n) devices
+next_device [] n d at = absurd cc
+next_device (e ∷ devices) zero d at = ap (λ x. x ∷ devices) (some_same at)
+  where
+    some_same : Some e ≡ Some d → e ≡ d
+    some_same is = cc
+next_device (e ∷ devices) (suc n) d at = next_device devices n d at
 
-abbrev alone : Plant → FrameBlock → Setup
-alone plant block = record { plant = plant; blocks = block ∷ [] }
+no_device : (devices : List Device) (n : ℕ) → slice_get devices n ≡ None → drop n devices ≡ []
+no_device [] zero at = refl
+no_device [] (suc n) at = refl
+no_device (e ∷ devices) zero at = absurd cc
+no_device (e ∷ devices) (suc n) at = no_device devices n at
 
--- the block's one entry is the only one there is
-only_entry : (plant : Plant) (block : FrameBlock) (e : Entry) → block.entries ≡ e ∷ [] → (device frame : ℕ) (x : Entry) →
-    entry_at (alone plant block) device frame ≡ Some x → (e.frame.0 ≡ frame) × (x ≡ e)
-only_entry plant block e is zero frame x at =
-    let found = some_at (nat_eq e.frame.0 frame) e x (sym (ap (find (λ (y : Entry). nat_eq y.frame.0 frame)) is) ∙ at) in
-    (eqb-true e.frame.0 frame found.0, found.1)
-only_entry plant block e is (suc device) frame x at = absurd cc
+abbrev same : List Bundle → List Bundle
+same bs = bs
 
--- the red period ends a guard before the cycle
-ends_in_cycle : (plant : Plant) (e : Entry) → MeetsRules plant → e.send_offset + wire_time e.data_length ≤ plant.red_max →
-    e.send_offset + wire_time e.data_length + guard_time plant.window ≤ cycle_time plant.factor
-ends_in_cycle plant e rules fits = let periods = rules.periods in omega arith
+-- a bundle more is valid too
+pub all_more : (front new : List Bundle) (b : Bundle) → new ≡ front ++ b ∷ [] → All IsBundle front → IsBundle b → All IsBundle new
+all_more front new b is all one = subst (All IsBundle) (sym is) (All-append IsBundle front (b ∷ []) all (lone b one))
+  where
+    lone : (b : Bundle) → IsBundle b → All IsBundle (b ∷ [])
+    lone b one zero d within = one
+    lone b one (suc k) d within = absurd (omega arith)
 
-own_plan : (plant : Plant) (block : FrameBlock) (e : Entry) → MeetsRules plant → IsFrameBlock block → block.entries ≡ e ∷ [] → e.rx_port ≡ 0 →
-    e.send_offset + wire_time e.data_length ≤ plant.red_max → IsOwnPlan (alone plant block)
-own_plan plant block e rules valid is own fits =
-    let entry : AllByRecursion IsEntry (e ∷ []) = subst (λ es. AllByRecursion IsEntry es) is valid.each in
-    let frame : IsOwnFrame (alone plant block) e = record { own = own; rate = entry.0.rate; ends = ends_in_cycle plant e rules fits } in
-    record {
-      each = λ device f x at. subst (λ y. IsOwnFrame (alone plant block) y) (sym (only_entry plant block e is device f x at).1) frame;
-      clear = λ device port f g d x differ first second _ _ _.
-          absurd (differ (sym (only_entry plant block e is device f d first).0 ∙ (only_entry plant block e is device g x second).0));
-    }
+-- no device is left
+pub none_left : (devices : List Device) (front : List Bundle) (held : Option Files) → slice_get devices (length front) ≡ None →
+    Follows same (bundles_steps (drop (length front) devices) front) held held (Ok front)
+none_left devices front held at = subst (λ ds. Follows same (bundles_steps ds front) held held (Ok front)) (sym (no_device devices (length front) at)) (given held)
+  where
+    given : (held : Option Files) → Follows same (gives front) held held (Ok front)
+    given None = tt
+    given (Some files) = (refl, refl)
 
-pub safe_file : ((setup : Setup) → IsOwnPlan setup → NeverCollides setup) → (plant : Plant) (bytes : List ℕ) (e : Entry) → MeetsRules plant → IsEntryOf bytes e →
-    e.send_offset + wire_time e.data_length ≤ plant.red_max → IsSafeFile plant bytes
-safe_file law plant bytes e rules is fits = record {
-  block = is.block;
-  read = is.read;
-  apart = law (alone plant is.block) (own_plan plant is.block e rules is.valid is.alone is.own fits);
-}
+-- a device's file was read
+pub one_more : (devices : List Device) (d : Device) (front next : List Bundle) (old mid new : Option Files) (result : Result (List Bundle) Stop) →
+    slice_get devices (length front) ≡ Some d → length next ≡ length front + 1 → Follows same (device_steps d front) old mid (Ok next) →
+    Follows same (bundles_steps (drop (length next) devices) next) mid new result → Follows same (bundles_steps (drop (length front) devices) front) old new result
+one_more devices d front next old mid new result at count first later =
+    let after_it : length next ≡ suc (length front) = omega (arith, count) in
+    let rest = subst (λ n. Follows same (bundles_steps (drop n devices) next) mid new result) after_it later in
+    subst (λ ds. Follows same (bundles_steps ds front) old new result) (sym (next_device devices (length front) d at))
+    (follow_on same same (device_steps d front) (bundles_steps (drop (suc (length front)) devices)) old mid new next result first rest)
 
-pub on_ok : {A E : Type 0} (result : Result A E) (P Q : Type 0) → (P → Q) → OnOk result P → OnOk result Q
-on_ok (Ok x) P Q f p = f p
-on_ok (Err e) P Q f p = tt
+-- a device's file ended the command
+pub one_stops : (devices : List Device) (d : Device) (front : List Bundle) (old new : Option Files) (stop : Stop) →
+    slice_get devices (length front) ≡ Some d → Follows same (device_steps d front) old new (Err stop) →
+    Follows same (bundles_steps (drop (length front) devices) front) old new (Err stop)
+one_stops devices d front old new stop at first =
+    subst (λ ds. Follows same (bundles_steps ds front) old new (Err stop)) (sym (next_device devices (length front) d at))
+    (follow_stop same same (device_steps d front) (bundles_steps (drop (suc (length front)) devices)) old new stop first)
 
--- ---- the steps
+-- no device's file is read yet
+pub from_none : (held devices : List Device) (front : List Bundle) (old new : Option Files) (result : Result (List Bundle) Stop) → devices ≡ held → front ≡ [] →
+    Follows same (bundles_steps (drop (length front) devices) front) old new result → Follows same (bundles_steps held []) old new result
+from_none held devices front old new result same_devices none follows =
+    subst (λ ds. Follows same (bundles_steps ds []) old new result) same_devices
+    (subst (λ bs. Follows same (bundles_steps (drop (length bs) devices) bs) old new result) none follows)
 
-pub follow_after : {A B C : Type 0} (view : C → B) (result : Result C Stop) (first : Result A Ending) (f : A → Result B Ending) (x : A) →
-    first ≡ gives x → Follows view result (f x) → Follows view result (after first f)
-follow_after view result first f x is follows = subst (λ r. Follows view result (after r f)) (sym is) follows
+-- ---- the verdict
 
--- what `check` goes on with
-check_told : (held : Option Files) (name bytes text : List ℕ) (plant : Plant) (result : Result (Vec ℕ) Stop) →
-    Told held (λ files. load_of files name PLANT_FILE ≡ gives bytes) → text ≡ bytes → plant_at name text ≡ gives plant →
-    Told held (λ files. Follows (λ (v : Vec ℕ). v.items) result (sender_of files plant)) → Told held (λ files. Follows (λ (v : Vec ℕ). v.items) result (check_of files name))
-check_told None name bytes text plant result loaded same read follows = tt
-check_told (Some files) name bytes text plant result loaded same read follows =
-    follow_after (λ (v : Vec ℕ). v.items) result (load_of files name PLANT_FILE) (λ b. after (plant_at name b) (sender_of files)) bytes loaded
-    (follow_after (λ (v : Vec ℕ). v.items) result (plant_at name bytes) (sender_of files) plant (ap (plant_at name) (sym same) ∙ read) follows)
+rejects_on : (plant : Plant) (bundles : List Bundle) (reject : Reject) (stop : Stop) → IsPlan plant bundles → IsReject plant bundles reject →
+    IsEnding stop 8 (reject_line reject.rule (name_of plant reject.place.device.0) reject.place.port reject.place.frame reject.place.other) →
+    Decides (λ (v : Vec ℕ). v.items) (verdict_steps plant bundles) (Err stop)
+rejects_on plant bundles reject stops.NoMemory plan is ends files = inl refl
+rejects_on plant bundles reject (stops.Fault line) plan is ends files = absurd ends
+rejects_on plant bundles reject (stops.Ends cause line) plan is ends files =
+    (Some reject, record { plan = plan; judged = is }, (ap (λ s. Err (ending s line.items)) ends.0 ∙ ap (λ t. Err (ending 8 t)) ends.1, refl))
 
-pub check_follows : (held mid : Option Files) (name bytes text : List ℕ) (plant : Plant) (result : Result (Vec ℕ) Stop) → mid ≡ held →
-    Told held (λ files. load_of files name PLANT_FILE ≡ gives bytes) → text ≡ bytes → plant_at name text ≡ gives plant →
-    Told mid (λ files. Follows (λ (v : Vec ℕ). v.items) result (sender_of files plant)) → Told held (λ files. Follows (λ (v : Vec ℕ). v.items) result (check_of files name))
-check_follows held mid name bytes text plant result kept loaded same read follows =
-    check_told held name bytes text plant result loaded same read (subst (λ (m : Option Files). Told m (λ files. Follows (λ (v : Vec ℕ). v.items) result (sender_of files plant))) kept follows)
+pub rejects : (plant : Plant) (bundles : List Bundle) (answer : Option Reject) (reject : Reject) (stop : Stop) → IsPlan plant bundles → IsJudged plant bundles answer →
+    answer ≡ Some reject → IsEnding stop 8 (reject_line reject.rule (name_of plant reject.place.device.0) reject.place.port reject.place.frame reject.place.other) →
+    Decides (λ (v : Vec ℕ). v.items) (verdict_steps plant bundles) (Err stop)
+rejects plant bundles answer reject stop plan is same ends = rejects_on plant bundles reject stop plan (subst (IsJudged plant bundles) same is) ends
 
--- what was loaded is held
-some_bytes : (b : Bool) (ending : Ending) (x y : List ℕ) → cond b (Err ending) (gives x) ≡ gives y → x ≡ y
-some_bytes true ending x y is = absurd cc
-some_bytes false ending x y is = cc
-
-held_bytes : (name : List ℕ) (limit : ℕ) (held : Option (List ℕ)) (bytes : List ℕ) → bytes_of name limit held ≡ gives bytes → held ≡ Some bytes
-held_bytes name limit None bytes is = absurd cc
-held_bytes name limit (Some x) bytes is = ap Some (some_bytes (nat_lt limit (length x)) _ x bytes is)
-
-accepts_told : (held : Option Files) (name bytes text : List ℕ) (plant : Plant) → Told held (λ files. load_of files name PLANT_FILE ≡ gives bytes) → text ≡ bytes →
-    plant_of text ≡ Ok plant → Told held (λ files. IsSafe files plant) → Told held (λ files. Accepts files name)
-accepts_told None name bytes text plant loaded same read safe = tt
-accepts_told (Some files) name bytes text plant loaded same read safe = record {
-  bytes = bytes;
-  held = held_bytes name PLANT_FILE (files name) bytes loaded;
-  plant = plant;
-  stated = ap plant_of (sym same) ∙ read;
-  safe = safe;
-}
-
-pub check_accepts : (held mid : Option Files) (name bytes text : List ℕ) (plant : Plant) → mid ≡ held →
-    Told held (λ files. load_of files name PLANT_FILE ≡ gives bytes) → text ≡ bytes → plant_of text ≡ Ok plant →
-    Told mid (λ files. IsSafe files plant) → Told held (λ files. Accepts files name)
-check_accepts held mid name bytes text plant kept loaded same read safe =
-    accepts_told held name bytes text plant loaded same read (subst (λ (m : Option Files). Told m (λ files. IsSafe files plant)) kept safe)
+-- the verdict on blocks that were read
+pub follow_judged : (plant : Plant) (read bundles : List Bundle) (held : Option Files) (result : Result (Vec ℕ) Stop) → bundles ≡ read →
+    Decides (λ (v : Vec ℕ). v.items) (verdict_steps plant bundles) result → Follows (λ (v : Vec ℕ). v.items) (verdict_steps plant read) held held result
+follow_judged plant read bundles held result is decides =
+    follow_decided (λ (v : Vec ℕ). v.items) (verdict_steps plant read) held result
+    (subst (λ bs. Decides (λ (v : Vec ℕ). v.items) (verdict_steps plant bs) result) is decides)

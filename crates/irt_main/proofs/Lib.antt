@@ -1,5 +1,6 @@
+pub mod CauseLemmas
 pub mod CheckLemmas
 pub mod NameLemmas
-pub mod OutcomeLemmas
-pub mod PrintLemmas
-pub mod StepLemmas
+pub mod OneLemmas
+pub mod ReasonLemmas
+pub mod RightLemmas

@@ -1,8 +1,4 @@
-pub mod Accept
-pub mod Check
-pub mod Line
-pub mod Outcome
-pub mod Print
-pub mod Simple
-pub mod Step
+pub mod Causes
+pub mod Commands
+pub mod Lines
 pub mod Words

@@ -1,22 +1,27 @@
-//! The lines that the program prints.
+//! The lines that the commands print.
 
 ghost use Rattle.std.specs.Prelude.{◌≡◌, IfOk};
-ghost use Rattle.irt_main.specs.Line.{named_line, rule_line, reject_line};
-ghost use Rattle.irt_main.specs.Step.{IsEnding, IsNoFault, IsStopOf, status_of};
+ghost use Rattle.irt_main.specs.Lines.{usage_line, not_toml_line, rule_line, kind_text, malformed_line, accept_line, reject_line};
 
-use crate::stop::{Cause, Stop};
 use irt_base::memory::NoMemory;
 use irt_base::numbers::FrameId;
 use irt_base::texts::print_frame;
-use irt_io::shelf::ShelfError;
+use irt_block::{BlockFault, BlockKind};
+use plan_rules::place::Reject;
 use std::alloc::Global;
 
-/// A word and a name.
-pub fn named_line(alloc: Global, word: &str, name: &str) -> Result<Vec<u8>, NoMemory>
-    ensures { IfOk result (λ v. v.items ≡ named_line word.now name.now) }
+/// Words that are no command.
+pub fn usage_line(alloc: Global) -> Result<Vec<u8>, NoMemory>
+    ensures { IfOk result (λ v. v.items ≡ usage_line) }
 {
-    let line = format!(in alloc; "{word} {name}\n")?;
-    Ok(line.into_bytes())
+    Ok(Vec::from_slice(alloc, b"usage\n")?)
+}
+
+/// A plant file that is no TOML document.
+pub fn not_toml_line(alloc: Global) -> Result<Vec<u8>, NoMemory>
+    ensures { IfOk result (λ v. v.items ≡ not_toml_line) }
+{
+    Ok(Vec::from_slice(alloc, b"plant not toml\n")?)
 }
 
 /// The plant rule that fails, and its index.
@@ -27,53 +32,55 @@ pub fn rule_line(alloc: Global, number: u8, index: u16) -> Result<Vec<u8>, NoMem
     Ok(line.into_bytes())
 }
 
-/// The check rule that fails, and its place.
-pub fn reject_line(
-    alloc: Global,
-    rule: u8,
-    device: &[u8],
-    port: u8,
-    frame: FrameId,
-    other: FrameId,
-) -> Result<Vec<u8>, NoMemory>
-    ensures { IfOk result (λ v. v.items ≡ reject_line rule device.now port frame.0 other.0) }
+/// What is wrong with a device file.
+pub fn malformed_line(alloc: Global, name: &str, fault: BlockFault) -> Result<Vec<u8>, NoMemory>
+    ensures { IfOk result (λ v. v.items ≡ malformed_line name.now fault) }
 {
-    let mut first = [0; 6];
-    let mut second = [0; 6];
-    print_frame(&mut first, frame);
-    print_frame(&mut second, other);
+    let kind = kind_text(fault.kind);
+    let offset = fault.offset;
+    let line = format!(in alloc; "malformed {name} {offset} {kind}\n")?;
+    Ok(line.into_bytes())
+}
+
+/// The name of a kind of fault.
+fn kind_text(kind: BlockKind) -> &'static str
+    ensures { result.now ≡ kind_text kind }
+{
+    match kind {
+        BlockKind::NoMemory => "NoMemory",
+        BlockKind::Short => "Short",
+        BlockKind::BadType => "BadType",
+        BlockKind::BadLength => "BadLength",
+        BlockKind::BadVersion => "BadVersion",
+        BlockKind::BadPad => "BadPad",
+        BlockKind::BadValue => "BadValue",
+        BlockKind::Trailing => "Trailing",
+    }
+}
+
+/// Blocks that the rules accept.
+pub fn accept_line(alloc: Global) -> Result<Vec<u8>, NoMemory>
+    ensures { IfOk result (λ v. v.items ≡ accept_line) }
+{
+    Ok(Vec::from_slice(alloc, b"ACCEPT\n")?)
+}
+
+/// The check rule that fails, and its place; `device` is the name of the place's device.
+pub fn reject_line(alloc: Global, device: &[u8], reject: Reject) -> Result<Vec<u8>, NoMemory>
+    ensures { IfOk result (λ v. v.items ≡ reject_line reject.rule device.now reject.place.port reject.place.frame reject.place.other) }
+{
+    let rule = reject.rule;
+    let port = reject.place.port;
+    let mut frame = [0; 6];
+    let mut other = [0; 6];
+    print_frame(&mut frame, FrameId(reject.place.frame));
+    print_frame(&mut other, FrameId(reject.place.other));
     let mut line = format!(in alloc; "REJECT V{rule} ")?.into_bytes();
     line.extend_from_slice(device)?;
     line.extend_from_slice(format!(in alloc; " {port} ")?.as_bytes())?;
-    line.extend_from_slice(&first)?;
+    line.extend_from_slice(&frame)?;
     line.extend_from_slice(b" ")?;
-    line.extend_from_slice(&second)?;
+    line.extend_from_slice(&other)?;
     line.extend_from_slice(b"\n")?;
     Ok(line)
-}
-
-/// What an error of the shelf at a name ends the command with.
-pub fn stop_of(alloc: Global, error: ShelfError, name: &str) -> Stop
-    ensures { IsStopOf error name.now result }
-{
-    match error {
-        ShelfError::Absent => ends_with(alloc, Cause::Absent, "absent", name),
-        ShelfError::TooLong => ends_with(alloc, Cause::TooLong, "too long", name),
-        ShelfError::Failed => match named_line(alloc, "shelf fault", name) {
-            Ok(line) => Stop::Fault { line },
-            Err(NoMemory) => Stop::NoMemory,
-        },
-        ShelfError::NoMemory => Stop::NoMemory,
-    }
-}
-
-/// An ending with the line of a word and a name.
-pub fn ends_with(alloc: Global, cause: Cause, word: &str, name: &str) -> Stop
-    ensures ending { IsEnding result (status_of cause) (named_line word.now name.now) }
-    ensures calm { IsNoFault result }
-{
-    match named_line(alloc, word, name) {
-        Ok(line) => Stop::Ends { cause, line },
-        Err(NoMemory) => Stop::NoMemory,
-    }
 }

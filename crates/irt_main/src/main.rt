@@ -2,26 +2,23 @@
 #![tactic(auto)]
 
 mod check;
+mod files;
 mod line;
-mod load;
-mod print;
-mod simple;
-mod stop;
+mod show;
 mod top;
 mod words;
 
 use crate::top::irt_calm;
 use irt_io::folder::FolderShelf;
 use irt_io::stdout::StdSink;
+use irt_steps::finish::NO_MEMORY;
 use std::alloc::Global;
 use std::io::ErrorKind;
 use std::process::ExitCode;
 use std::{env, io};
 
-/// The status where the system gives no words, and where there is no memory for them.
+/// The status where the system gives no words.
 const NO_WORDS: u8 = 64;
-
-const NO_MEMORY: u8 = 13;
 
 fn main(rt: HostRuntime) -> ExitCode {
     let alloc = rt.alloc();

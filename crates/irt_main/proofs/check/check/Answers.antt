@@ -1,10 +1,15 @@
-use Rattle.irt_main.proofs.CheckLemmas.{check_follows, check_accepts, on_ok}
+use Rattle.std.proofs.lemmas.Result.{err_from_is_err_and}
+use Rattle.std.specs.Global.{Vec}
+use Rattle.std.specs.Prelude.{ℕ}
+use Rattle.irt_steps.proofs.StepLemmas.{follow_on, follow_stop}
+use Rattle.irt_main.specs.Commands.{plant_steps, blocks_steps}
 use Rattle.irt_main.proofs.check.check.Goals as goal
+
+pub returns-in_err-plant-clause-step : goal.returns-in_err-plant-clause-step
+returns-in_err-plant-clause-step g c =
+    let p = err_from_is_err_and c.from_residual.result c.from_residual.ensures.1 in
+    rw (p.1, p.2) (follow_stop (λ p. p) (λ (v : Vec ℕ). v.items) (plant_steps c.args.name.now) blocks_steps _ _ _ c.in_err-plant.ensures.step)
 
 pub returns-clause-step : goal.returns-clause-step
 returns-clause-step g c =
-    check_follows _ _ _ _ _ c.in_ok-plant.plant _ c.in_ok-bytes.ensures.kept c.in_ok-bytes.ensures.step c.as_slice.ensures.value c.in_ok-plant.ensures.step c.check_sender.ensures.step
-
-pub returns-clause-accepts : goal.returns-clause-accepts
-returns-clause-accepts g c =
-    on_ok _ _ _ (check_accepts _ _ _ _ _ c.in_ok-plant.plant c.in_ok-bytes.ensures.kept c.in_ok-bytes.ensures.step c.as_slice.ensures.value c.in_ok-plant.ensures.read) c.check_sender.ensures.accepts
+    follow_on (λ p. p) (λ (v : Vec ℕ). v.items) (plant_steps c.args.name.now) blocks_steps _ _ _ c.in_ok-plant.plant _ c.in_ok-plant.ensures.step c.check_blocks.ensures.step

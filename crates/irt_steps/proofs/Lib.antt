@@ -1,0 +1,5 @@
+pub mod EndedLemmas
+pub mod OneWay
+pub mod PrintLemmas
+pub mod ShelfLemmas
+pub mod StepLemmas

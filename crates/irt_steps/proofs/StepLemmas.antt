@@ -1,0 +1,213 @@
+-- Steps that follow each other.
+use Rattle.std.proofs.Common.{◌≡◌, ◌⊎◌, inl, inr, ℕ, List, Option, Some, None, Result, Ok, Err, refl, sym, ◌∙◌, ap, subst, arith, ◌<◌, ◌≤◌, length}
+use Rattle.irt_io.specs.Files.{Files}
+use Rattle.irt_steps.specs.declared.stop.Stop.{Stop}
+use Rattle.irt_steps.specs.declared.stop.Stop.TheVariants as stops
+use Rattle.irt_steps.specs.Steps.{Ending, ending, Steps, gives, ends, loads, stores, asks, after, judged, IsHeld, IsMissing, IsTooLong, Comes, FailsAt, Halts, LoadsNext}
+use Rattle.irt_steps.specs.Follow.{status_of, FollowsOn, Follows, Answers, Decides}
+
+abbrev value : {A : Type 0} → A → Result A Ending
+value x = Ok x
+
+abbrev stopped : {A : Type 0} → Ending → Result A Ending
+stopped e = Err e
+
+ok_same : {A : Type 0} {x y : A} → value x ≡ value y → x ≡ y
+ok_same is = cc
+
+err_same : {A B : Type 0} {d e : Ending} → stopped {A = A} e ≡ stopped {A = A} d → stopped {A = B} e ≡ stopped {A = B} d
+err_same is = cc
+
+-- the first steps give a value, and the next ones lead on from there
+comes_on : {A B : Type 0} (steps : Steps A) (f : A → Steps B) (old mid new : Files) (x : A) (result : Result B Ending) →
+    Comes steps old mid (Ok x) → Comes (f x) mid new result → Comes (after steps f) old new result
+comes_on (gives y) f old mid new x result (is, kept) next = subst (λ z. Comes (f z) old new result) (ok_same is) (subst (λ m. Comes (f x) m new result) kept next)
+comes_on (ends e) f old mid new x result (is, kept) next = absurd cc
+comes_on (loads name limit more) f old mid new x result (inl (bytes, held, comes)) next = inl (bytes, held, comes_on (more bytes) f old mid new x result comes next)
+comes_on (loads name limit more) f old mid new x result (inr (e, why, is, kept)) next = absurd cc
+comes_on (stores name bytes more) f old mid new x result (between, stored, comes) next = (between, stored, comes_on more f between mid new x result comes next)
+comes_on (asks P more) f old mid new x result (b, holds, comes) next = (b, holds, comes_on (more b) f old mid new x result comes next)
+
+-- an ending of the first steps is one of all
+comes_end : {A B : Type 0} (steps : Steps A) (f : A → Steps B) (old new : Files) (e : Ending) → Comes steps old new (Err e) → Comes (after steps f) old new (Err e)
+comes_end (gives y) f old new e (is, kept) = absurd cc
+comes_end (ends d) f old new e (is, kept) = (err_same is, kept)
+comes_end (loads name limit more) f old new e (inl (bytes, held, comes)) = inl (bytes, held, comes_end (more bytes) f old new e comes)
+comes_end (loads name limit more) f old new e (inr (d, why, is, kept)) = inr (d, why, err_same is, kept)
+comes_end (stores name bytes more) f old new e (between, stored, comes) = (between, stored, comes_end more f between new e comes)
+comes_end (asks P more) f old new e (b, holds, comes) = (b, holds, comes_end (more b) f old new e comes)
+
+fails_first : {A B : Type 0} (steps : Steps A) (f : A → Steps B) (old new : Files) (name : List ℕ) → FailsAt steps old new name → FailsAt (after steps f) old new name
+fails_first (gives y) f old new name fails = absurd fails
+fails_first (ends d) f old new name fails = absurd fails
+fails_first (loads at limit more) f old new name (inl here) = inl here
+fails_first (loads at limit more) f old new name (inr (bytes, held, fails)) = inr (bytes, held, fails_first (more bytes) f old new name fails)
+fails_first (stores at bytes more) f old new name (inl here) = inl here
+fails_first (stores at bytes more) f old new name (inr (between, stored, fails)) = inr (between, stored, fails_first more f between new name fails)
+fails_first (asks P more) f old new name (b, holds, fails) = (b, holds, fails_first (more b) f old new name fails)
+
+fails_later : {A B : Type 0} (steps : Steps A) (f : A → Steps B) (old mid new : Files) (x : A) (name : List ℕ) → Comes steps old mid (Ok x) → FailsAt (f x) mid new name →
+    FailsAt (after steps f) old new name
+fails_later (gives y) f old mid new x name (is, kept) fails = subst (λ z. FailsAt (f z) old new name) (ok_same is) (subst (λ m. FailsAt (f x) m new name) kept fails)
+fails_later (ends d) f old mid new x name (is, kept) fails = absurd cc
+fails_later (loads at limit more) f old mid new x name (inl (bytes, held, comes)) fails = inr (bytes, held, fails_later (more bytes) f old mid new x name comes fails)
+fails_later (loads at limit more) f old mid new x name (inr (e, why, is, kept)) fails = absurd cc
+fails_later (stores at bytes more) f old mid new x name (between, stored, comes) fails = inr (between, stored, fails_later more f between mid new x name comes fails)
+fails_later (asks P more) f old mid new x name (b, holds, comes) fails = (b, holds, fails_later (more b) f old mid new x name comes fails)
+
+-- memory may run out before any step
+halts_here : {A : Type 0} (steps : Steps A) (files : Files) → Halts steps files files
+halts_here (gives y) files = refl
+halts_here (ends d) files = refl
+halts_here (loads at limit more) files = inl refl
+halts_here (stores at bytes more) files = inl (λ other differs. refl)
+halts_here (asks P more) files = inl refl
+
+halts_first : {A B : Type 0} (steps : Steps A) (f : A → Steps B) (old new : Files) → Halts steps old new → Halts (after steps f) old new
+halts_first (gives y) f old new halts = subst (λ files. Halts (f y) old files) (sym halts) (halts_here (f y) old)
+halts_first (ends d) f old new halts = halts
+halts_first (loads at limit more) f old new (inl here) = inl here
+halts_first (loads at limit more) f old new (inr (bytes, held, halts)) = inr (bytes, held, halts_first (more bytes) f old new halts)
+halts_first (stores at bytes more) f old new (inl here) = inl here
+halts_first (stores at bytes more) f old new (inr (between, stored, halts)) = inr (between, stored, halts_first more f between new halts)
+halts_first (asks P more) f old new (inl here) = inl here
+halts_first (asks P more) f old new (inr (b, holds, halts)) = inr (b, holds, halts_first (more b) f old new halts)
+
+halts_later : {A B : Type 0} (steps : Steps A) (f : A → Steps B) (old mid new : Files) (x : A) → Comes steps old mid (Ok x) → Halts (f x) mid new → Halts (after steps f) old new
+halts_later (gives y) f old mid new x (is, kept) halts = subst (λ z. Halts (f z) old new) (ok_same is) (subst (λ m. Halts (f x) m new) kept halts)
+halts_later (ends d) f old mid new x (is, kept) halts = absurd cc
+halts_later (loads at limit more) f old mid new x (inl (bytes, held, comes)) halts = inr (bytes, held, halts_later (more bytes) f old mid new x comes halts)
+halts_later (loads at limit more) f old mid new x (inr (e, why, is, kept)) halts = absurd cc
+halts_later (stores at bytes more) f old mid new x (between, stored, comes) halts = inr (between, stored, halts_later more f between mid new x comes halts)
+halts_later (asks P more) f old mid new x (b, holds, comes) halts = inr (b, holds, halts_later (more b) f old mid new x comes halts)
+
+-- ---- functions that follow each other
+
+on_later : {A B C D : Type 0} (view : A → B) (seen : C → D) (steps : Steps B) (f : B → Steps D) (old mid new : Files) (x : A) (result : Result C Stop) →
+    Comes steps old mid (Ok (view x)) → FollowsOn seen (f (view x)) result mid new → FollowsOn seen (after steps f) result old new
+on_later view seen steps f old mid new x (Ok y) comes next = comes_on steps f old mid new (view x) (Ok (seen y)) comes next
+on_later view seen steps f old mid new x (Err (stops.Ends cause line)) comes next = comes_on steps f old mid new (view x) (Err (ending (status_of cause) line.items)) comes next
+on_later view seen steps f old mid new x (Err (stops.Fault line)) comes (name, is, fails) = (name, is, fails_later steps f old mid new (view x) name comes fails)
+on_later view seen steps f old mid new x (Err stops.NoMemory) comes next = halts_later steps f old mid new (view x) comes next
+
+-- a function made the first steps, and another one the next
+pub follow_on : {A B C D : Type 0} (view : A → B) (seen : C → D) (steps : Steps B) (f : B → Steps D) (old mid new : Option Files) (x : A) (result : Result C Stop) →
+    Follows view steps old mid (Ok x) → Follows seen (f (view x)) mid new result → Follows seen (after steps f) old new result
+follow_on view seen steps f None None None x result first next = tt
+follow_on view seen steps f None None (Some n) x result first next = next
+follow_on view seen steps f None (Some m) new x result first next = absurd first
+follow_on view seen steps f (Some o) None new x result first next = absurd first
+follow_on view seen steps f (Some o) (Some m) None x result first next = next
+follow_on view seen steps f (Some o) (Some m) (Some n) x result first next = on_later view seen steps f o m n x result first next
+
+on_stop : {A B C D : Type 0} (view : A → B) (seen : C → D) (steps : Steps B) (f : B → Steps D) (old new : Files) (stop : Stop) →
+    FollowsOn view steps (Err stop) old new → FollowsOn seen (after steps f) (Err stop) old new
+on_stop view seen steps f old new (stops.Ends cause line) comes = comes_end steps f old new (ending (status_of cause) line.items) comes
+on_stop view seen steps f old new (stops.Fault line) (name, is, fails) = (name, is, fails_first steps f old new name fails)
+on_stop view seen steps f old new stops.NoMemory halts = halts_first steps f old new halts
+
+-- a function stopped in the first steps
+pub follow_stop : {A B C D : Type 0} (view : A → B) (seen : C → D) (steps : Steps B) (f : B → Steps D) (old new : Option Files) (stop : Stop) →
+    Follows view steps old new (Err stop) → Follows seen (after steps f) old new (Err stop)
+follow_stop view seen steps f None None stop first = tt
+follow_stop view seen steps f None (Some n) stop first = first
+follow_stop view seen steps f (Some o) None stop first = first
+follow_stop view seen steps f (Some o) (Some n) stop first = on_stop view seen steps f o n stop first
+
+-- ---- functions that touch no shelf
+
+decided : {A B : Type 0} (view : A → B) (answer : Result B Ending) (result : Result A Stop) → Answers view answer result → Decides view (judged answer) result
+decided view (Ok x) (Ok y) is files = (sym is, refl)
+decided view (Ok x) (Err (stops.Ends cause line)) is files = absurd cc
+decided view (Ok x) (Err (stops.Fault line)) is files = absurd is
+decided view (Ok x) (Err stops.NoMemory) is files = refl
+decided view (Err e) (Ok y) is files = absurd cc
+decided view (Err e) (Err (stops.Ends cause line)) is files = (sym is, refl)
+decided view (Err e) (Err (stops.Fault line)) is files = absurd is
+decided view (Err e) (Err stops.NoMemory) is files = refl
+
+pub follow_decided : {A B : Type 0} (view : A → B) (steps : Steps B) (held : Option Files) (result : Result A Stop) → Decides view steps result → Follows view steps held held result
+follow_decided view steps None result decides = tt
+follow_decided view steps (Some files) result decides = decides files
+
+-- a function answered, and another one made the next steps
+pub follow_answer : {A B : Type 0} (view : A → B) (answer : Result B Ending) (held : Option Files) (result : Result A Stop) → Answers view answer result →
+    Follows view (judged answer) held held result
+follow_answer view answer held result is = follow_decided view (judged answer) held result (decided view answer result is)
+
+-- memory ran out before the steps
+pub follow_none : {A B : Type 0} (view : A → B) (steps : Steps B) (held : Option Files) → Follows view steps held held (Err stops.NoMemory)
+follow_none view steps None = tt
+follow_none view steps (Some files) = halts_here steps files
+
+-- ---- what steps that led somewhere came by
+
+-- steps and their next ones led somewhere: by a value of the first, or by their ending
+pub comes_by : {A B : Type 0} (steps : Steps A) (f : A → Steps B) (old new : Files) (result : Result B Ending) → Comes (after steps f) old new result →
+    ((x : A) × (mid : Files) × Comes steps old mid (Ok x) × Comes (f x) mid new result) ⊎ ((e : Ending) × Comes steps old new (Err e) × (result ≡ Err e))
+comes_by (gives y) f old new result comes = inl (y, old, (refl, refl), comes)
+comes_by (ends d) f old new result (is, kept) = inr (d, (refl, kept), is)
+comes_by (loads name limit more) f old new result (inl (bytes, held, comes)) = elim (comes_by (more bytes) f old new result comes) [
+  | inl (x, mid, first, next) ↦ inl (x, mid, inl (bytes, held, first), next)
+  | inr (e, first, is) ↦ inr (e, inl (bytes, held, first), is)
+]
+comes_by (loads name limit more) f old new result (inr (e, why, is, kept)) = inr (e, inr (e, why, refl, kept), is)
+comes_by (stores name bytes more) f old new result (between, stored, comes) = elim (comes_by more f between new result comes) [
+  | inl (x, mid, first, next) ↦ inl (x, mid, (between, stored, first), next)
+  | inr (e, first, is) ↦ inr (e, (between, stored, first), is)
+]
+comes_by (asks P more) f old new result (b, holds, comes) = elim (comes_by (more b) f old new result comes) [
+  | inl (x, mid, first, next) ↦ inl (x, mid, (b, holds, first), next)
+  | inr (e, first, is) ↦ inr (e, (b, holds, first), is)
+]
+
+judged_by : {A : Type 0} (answer : Result A Ending) (old new : Files) (result : Result A Ending) → Comes (judged answer) old new result → (result ≡ answer) × (new ≡ old)
+judged_by (Ok x) old new result comes = comes
+judged_by (Err e) old new result comes = comes
+
+-- a file was loaded and judged
+pub read_by : {A : Type 0} (name : List ℕ) (limit : ℕ) (answer : List ℕ → Result A Ending) (old new : Files) (result : Result A Ending) →
+    Comes (loads name limit (λ bytes. judged (answer bytes))) old new result →
+    (new ≡ old) × (((bytes : List ℕ) × IsHeld old name limit bytes × (result ≡ answer bytes)) ⊎ ((e : Ending) × (IsMissing old name e ⊎ IsTooLong old name limit e) × (result ≡ Err e)))
+read_by name limit answer old new result (inl (bytes, held, comes)) =
+    let is = judged_by (answer bytes) old new result comes in
+    (is.1, inl (bytes, held, is.0))
+read_by name limit answer old new result (inr (e, why, is, kept)) = (kept, inr (e, why, is))
+
+some_same : {x y : List ℕ} → Some x ≡ Some y → x ≡ y
+some_same is = cc
+
+none_some : {x : List ℕ} → None ≡ Some x → ⊥
+none_some is = absurd cc
+
+long_within : (limit : ℕ) (x y : List ℕ) → x ≡ y → limit < length x → length y ≤ limit → ⊥
+long_within limit x y is over within = omega (arith, ap length is)
+
+-- the same where the file is held
+pub read_held : {A : Type 0} (name : List ℕ) (limit : ℕ) (answer : List ℕ → Result A Ending) (old new : Files) (result : Result A Ending) (bytes : List ℕ) →
+    IsHeld old name limit bytes → Comes (loads name limit (λ bytes. judged (answer bytes))) old new result → (new ≡ old) × (result ≡ answer bytes)
+read_held name limit answer old new result bytes held comes = elim (read_by name limit answer old new result comes).1 [
+  | inl (other, also, is) ↦ ((read_by name limit answer old new result comes).0, is ∙ ap answer (some_same (sym also.held ∙ held.held)))
+  | inr (e, inl missing, is) ↦ absurd (none_some (sym missing.0 ∙ held.held))
+  | inr (e, inr long, is) ↦ absurd (long_within limit long.bytes bytes (some_same (sym long.held ∙ held.held)) long.over held.within)
+]
+
+-- ---- which files are loaded
+
+pub loads_first : {A B : Type 0} (steps : Steps A) (f : A → Steps B) (files now : Files) (name : List ℕ) (limit : ℕ) → LoadsNext steps files name limit now →
+    LoadsNext (after steps f) files name limit now
+loads_first (gives x) f files now name limit next = absurd next
+loads_first (ends e) f files now name limit next = absurd next
+loads_first (loads at most more) f files now name limit (inl here) = inl here
+loads_first (loads at most more) f files now name limit (inr (bytes, held, next)) = inr (bytes, held, loads_first (more bytes) f files now name limit next)
+loads_first (stores at bytes more) f files now name limit (between, stored, next) = (between, stored, loads_first more f between now name limit next)
+loads_first (asks P more) f files now name limit (b, holds, next) = (b, holds, loads_first (more b) f files now name limit next)
+
+pub loads_later : {A B : Type 0} (steps : Steps A) (f : A → Steps B) (files mid now : Files) (x : A) (name : List ℕ) (limit : ℕ) → Comes steps files mid (Ok x) →
+    LoadsNext (f x) mid name limit now → LoadsNext (after steps f) files name limit now
+loads_later (gives y) f files mid now x name limit (is, kept) next = subst (λ z. LoadsNext (f z) files name limit now) (ok_same is) (subst (λ m. LoadsNext (f x) m name limit now) kept next)
+loads_later (ends d) f files mid now x name limit (is, kept) next = absurd cc
+loads_later (loads at most more) f files mid now x name limit (inl (bytes, held, comes)) next = inr (bytes, held, loads_later (more bytes) f files mid now x name limit comes next)
+loads_later (loads at most more) f files mid now x name limit (inr (e, why, is, kept)) next = absurd cc
+loads_later (stores at bytes more) f files mid now x name limit (between, stored, comes) next = (between, stored, loads_later more f between mid now x name limit comes next)
+loads_later (asks P more) f files mid now x name limit (b, holds, comes) next = (b, holds, loads_later (more b) f files mid now x name limit comes next)

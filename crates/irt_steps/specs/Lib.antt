@@ -1,0 +1,5 @@
+pub mod Ended
+pub mod Follow
+pub mod Lines
+pub mod Print
+pub mod Steps
