@@ -1,2 +1,1 @@
-pub mod OwnLemmas
 mod WorkedExample

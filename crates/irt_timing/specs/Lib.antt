@@ -1,6 +1,5 @@
 pub mod Arrival
 pub mod Occupation
-pub mod Own
 pub mod SendWindow
 pub mod Tree
 pub mod Way

@@ -4,5 +4,4 @@
 //! definitions, for every number that they speak of, in its contract.
 #![tactic(auto)]
 
-pub mod own;
 pub mod windows;

@@ -88,8 +88,8 @@ lateness zero = pos 500
 lateness (suc device) = pos 0
 
 -- the provider's clock is 500 ns late, the switch's in time; the switch takes 2000 ns
-abbrev row : WorldRow
-row = record { error = λ device. lateness device; bridge = λ device frame. 2000; is_cut = λ link. false }
+abbrev late : WorldRow
+late = record { error = λ device. lateness device; bridge = λ device frame. 2000; is_cut = λ link. false }
 
 hop : hop_of line 0 1 ≡ Some 800
 hop = refl
@@ -111,10 +111,10 @@ window =
     (at_anchor 0 (entry 0 2) refl (inl refl)) refl refl
 
 -- in cycle 1 the switch starts the frame at 1000000 + 500 + 800 + 2000
-start : IsStart setup row 1 0x100 1 (pos 1003300)
+start : IsStart setup late 1 0x100 1 (pos 1003300)
 start = by_arrival 1 (entry 1 4) 0 1 800 (pos 1000500) refl relays comes (by_offset 0 (entry 0 2) refl (inl refl)) refl
 
-live : IsLive setup row 0x100 1
+live : IsLive setup late 0x100 1
 live =
     forwarded 1 (entry 1 4) 0 1 refl comes (provided 0 (entry 0 2) refl refl (record { early = omega (arith, ints); late = omega (arith, ints) })) refl
     (record { early = omega (arith, ints); late = omega (arith, ints) })
@@ -122,9 +122,9 @@ live =
 abbrev sent : Occupation
 sent = record { cycle = 1; device = 1; port = 2; frame = 0x100; start = pos 1003300; end = pos 1010020 }
 
-occupies : IsOccupation setup (row ∷ row ∷ []) sent
+occupies : IsOccupation setup (late ∷ late ∷ []) sent
 occupies = record {
-  row = row;
+  row = late;
   entry = entry 1 4;
   in_cycle = refl;
   stands = refl;
@@ -136,10 +136,10 @@ occupies = record {
 }
 
 -- cycle 1 leaves the switch's second port to parcels from 1250000 until 1998000
-free : IsFree line bundles (row ∷ row ∷ []) 1 2 (pos 1250000) (pos 1998000)
+free : IsFree line bundles (late ∷ late ∷ []) 1 2 (pos 1250000) (pos 1998000)
 free = record {
   cycle = 1;
-  row = row;
+  row = late;
   bundle = bundle true (entry 1 4 ∷ []) 2;
   tx = red;
   in_cycle = refl;
@@ -163,9 +163,9 @@ at_once frame = record { cycle = 0; device = 0; port = 1; frame = frame; start =
 abbrev both : List Occupation
 both = at_once 0x100 ∷ at_once 0x101 ∷ []
 
-own_occupies : (frame : ℕ) → entry_at (setup_of line clashing) 0 frame ≡ Some (own frame) → IsOccupation (setup_of line clashing) (row ∷ []) (at_once frame)
+own_occupies : (frame : ℕ) → entry_at (setup_of line clashing) 0 frame ≡ Some (own frame) → IsOccupation (setup_of line clashing) (late ∷ []) (at_once frame)
 own_occupies frame at = record {
-  row = row;
+  row = late;
   entry = own frame;
   in_cycle = refl;
   stands = at;
@@ -176,7 +176,7 @@ own_occupies frame at = record {
   ends = refl;
 }
 
-each_occupies : (k : ℕ) (d : Occupation) → k < 2 → IsOccupation (setup_of line clashing) (row ∷ []) (slice_index_or both k d)
+each_occupies : (k : ℕ) (d : Occupation) → k < 2 → IsOccupation (setup_of line clashing) (late ∷ []) (slice_index_or both k d)
 each_occupies zero d below = own_occupies 0x100 refl
 each_occupies (suc zero) d below = own_occupies 0x101 refl
 each_occupies (suc (suc k)) d below = absurd (omega arith)
@@ -187,7 +187,7 @@ two_sendings zero (suc zero) d before below same = absurd (omega (arith, same.fr
 two_sendings zero (suc (suc j)) d before below same = absurd (omega arith)
 two_sendings (suc i) j d before below same = absurd (omega arith)
 
-clashes : ¬ NeverCollides line clashing (row ∷ [])
+clashes : ¬ NeverCollides line clashing (late ∷ [])
 clashes never =
     elim (never both (record { each = each_occupies; once = two_sendings }) 0 1 (at_once 0) (omega arith) (omega arith) (record { device = refl; port = refl })) [
       | inl before ↦ let no : pos 7220 ≤ℤ pos 500 = before in absurd (omega (arith, ints))
