@@ -16,7 +16,7 @@ use Rattle.irt_base.specs.declared.blocks.FrameBlock.{FrameBlock}
 use Rattle.irt_base.specs.declared.blocks.Side.TheVariants.{Tx, Rx}
 use Rattle.irt_base.specs.declared.plants.Device.{Device}
 use Rattle.irt_base.specs.declared.plants.Plant.{Plant}
-use Rattle.irt_timing.specs.Way.{entry_at}
+use Rattle.plan_rules.specs.Way.{entry_at}
 use Rattle.plan_rules.specs.Headers.{RepeatsPlant, SharesRange, IsHeader}
 use Rattle.plan_rules.specs.Periods.{IsRedFrame}
 use Rattle.plan_rules.specs.Places.{IsLess}

@@ -2,7 +2,7 @@
 
 ghost use Rattle.std.specs.Prelude.{◌≡◌, ◌<◌, ◌≤◌, ◌↔◌, length, IsTrue};
 ghost use Rattle.irt_base.specs.Valid.{IsPeriodBlock};
-ghost use Rattle.irt_topo.specs.Meets.{MeetsRules};
+ghost use Rattle.plant_rules.specs.Meets.{MeetsRules};
 ghost use Rattle.plan_rules.specs.Periods.{IsOrdered, AreOrdered};
 ghost use Rattle.plan_rules.specs.Plan.{IsPlan};
 ghost use Rattle.block_rules.specs.Scanning.{Holds, IsScanOf, KeepsPeriods, KeepsPort};

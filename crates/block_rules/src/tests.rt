@@ -1,7 +1,7 @@
 //! Tables of plans, each with the place at which a rule fails.
 
 ghost use Rattle.std.specs.Prelude.{IfOk, IsTrue};
-ghost use Rattle.irt_topo.specs.Meets.{MeetsRules};
+ghost use Rattle.plant_rules.specs.Meets.{MeetsRules};
 ghost use Rattle.plan_rules.specs.Plan.{IsPlan};
 
 use crate::{

@@ -1,7 +1,7 @@
 //! Plain blocks.
 
 ghost use Rattle.std.specs.Prelude.{◌≡◌, IfOk};
-ghost use Rattle.irt_topo.specs.Meets.{MeetsRules};
+ghost use Rattle.plant_rules.specs.Meets.{MeetsRules};
 ghost use Rattle.plan_rules.specs.Headers.{is_relative};
 ghost use Rattle.block_values.specs.Plain.{plain_port, plain_periods, plain_sync, plain_of};
 

@@ -17,9 +17,9 @@ abbrev pub ◌>>=◌ : {A B : Type 0} → Result A BlockFault → (A → Result 
 (Err e) >>= f = Err e
 
 -- What a function returned, seen by view, is what reading gives.
-abbrev pub Answers : {X Y : Type 0} → (X → Y) → Result X BlockFault → Result Y BlockFault → Type 0
-Answers view (Ok x) read = read ≡ Ok (view x)
-Answers view (Err e) read = read ≡ Err e
+abbrev pub GivesSurely : {X Y : Type 0} → (X → Y) → Result X BlockFault → Result Y BlockFault → Type 0
+GivesSurely view (Ok x) read = read ≡ Ok (view x)
+GivesSurely view (Err e) read = read ≡ Err e
 
 -- The same of a function that takes memory: unless memory ran out.
 abbrev pub Fails : {Y : Type 0} → BlockKind → BlockFault → Result Y BlockFault → Type 0

@@ -3,7 +3,7 @@
 //! before any test of the field's bytes. `name` alone takes memory, and only it may answer that none is left.
 
 ghost use Rattle.std.specs.Prelude.{◌≡◌, ◌≤◌, ◌<◌, ◌-◌, ◌^◌, length, IfOk};
-ghost use Rattle.irt_block.specs.Reading.{Answers, Gives, raw_at, number_at, rule_at, constant_at, ruled_at, within, bytes_pass, class_at, pad_at, ended_at, finished_at};
+ghost use Rattle.irt_block.specs.Reading.{GivesSurely, Gives, raw_at, number_at, rule_at, constant_at, ruled_at, within, bytes_pass, class_at, pad_at, ended_at, finished_at};
 ghost use Rattle.irt_block.specs.declared.bytes.ByteClass.TheVariants.{Letter as letters};
 
 use crate::bytes::ByteClass;
@@ -17,7 +17,7 @@ use std::alloc::Global;
 fn raw(extent: Extent, rest: &[u8], count: usize) -> Result<(&[u8], &[u8]), BlockFault>
     requires inside { length rest.now ≤ extent.end }
     requires fits { extent.end < 2 ^ 32 }
-    ensures gives { Answers (λ x. (x.0.now, x.1.now)) result (raw_at count extent rest.now) }
+    ensures gives { GivesSurely (λ x. (x.0.now, x.1.now)) result (raw_at count extent rest.now) }
     ensures shorter { IfOk result (λ x. length x.1.now ≤ length rest.now) }
     ensures count { IfOk result (λ x. length x.0.now ≡ count) }
 {
@@ -32,7 +32,7 @@ fn raw(extent: Extent, rest: &[u8], count: usize) -> Result<(&[u8], &[u8]), Bloc
 pub fn u8_at(extent: Extent, rest: &[u8]) -> Result<(u8, &[u8]), BlockFault>
     requires inside { length rest.now ≤ extent.end }
     requires fits { extent.end < 2 ^ 32 }
-    ensures gives { Answers (λ x. (x.0, x.1.now)) result (number_at 1 extent rest.now) }
+    ensures gives { GivesSurely (λ x. (x.0, x.1.now)) result (number_at 1 extent rest.now) }
     ensures shorter { IfOk result (λ x. length x.1.now ≤ length rest.now) }
 {
     if rest.len() < 1 {
@@ -46,7 +46,7 @@ pub fn u8_at(extent: Extent, rest: &[u8]) -> Result<(u8, &[u8]), BlockFault>
 pub fn u16_at(extent: Extent, rest: &[u8]) -> Result<(u16, &[u8]), BlockFault>
     requires inside { length rest.now ≤ extent.end }
     requires fits { extent.end < 2 ^ 32 }
-    ensures gives { Answers (λ x. (x.0, x.1.now)) result (number_at 2 extent rest.now) }
+    ensures gives { GivesSurely (λ x. (x.0, x.1.now)) result (number_at 2 extent rest.now) }
     ensures shorter { IfOk result (λ x. length x.1.now ≤ length rest.now) }
 {
     if rest.len() < 2 {
@@ -60,7 +60,7 @@ pub fn u16_at(extent: Extent, rest: &[u8]) -> Result<(u16, &[u8]), BlockFault>
 pub fn u32_at(extent: Extent, rest: &[u8]) -> Result<(u32, &[u8]), BlockFault>
     requires inside { length rest.now ≤ extent.end }
     requires fits { extent.end < 2 ^ 32 }
-    ensures gives { Answers (λ x. (x.0, x.1.now)) result (number_at 4 extent rest.now) }
+    ensures gives { GivesSurely (λ x. (x.0, x.1.now)) result (number_at 4 extent rest.now) }
     ensures shorter { IfOk result (λ x. length x.1.now ≤ length rest.now) }
 {
     if rest.len() < 4 {
@@ -73,7 +73,7 @@ pub fn u32_at(extent: Extent, rest: &[u8]) -> Result<(u32, &[u8]), BlockFault>
 pub fn rule(extent: Extent, rest: &[u8], holds: bool) -> Result<(), BlockFault>
     requires inside { length rest.now ≤ extent.end }
     requires fits { extent.end < 2 ^ 32 }
-    ensures { Answers (λ _. tt) result (rule_at holds extent rest.now) }
+    ensures { GivesSurely (λ _. tt) result (rule_at holds extent rest.now) }
 {
     if holds {
         return Ok(());
@@ -88,7 +88,7 @@ pub fn rule(extent: Extent, rest: &[u8], holds: bool) -> Result<(), BlockFault>
 pub fn u8_within(extent: Extent, rest: &[u8], low: u8, high: u8) -> Result<(u8, &[u8]), BlockFault>
     requires inside { length rest.now ≤ extent.end }
     requires fits { extent.end < 2 ^ 32 }
-    ensures gives { Answers (λ x. (x.0, x.1.now)) result (ruled_at 1 (within low high) extent rest.now) }
+    ensures gives { GivesSurely (λ x. (x.0, x.1.now)) result (ruled_at 1 (within low high) extent rest.now) }
     ensures shorter { IfOk result (λ x. length x.1.now ≤ length rest.now) }
 {
     let (value, after) = u8_at(extent, rest)?;
@@ -105,7 +105,7 @@ pub fn u16_within(
 ) -> Result<(u16, &[u8]), BlockFault>
     requires inside { length rest.now ≤ extent.end }
     requires fits { extent.end < 2 ^ 32 }
-    ensures gives { Answers (λ x. (x.0, x.1.now)) result (ruled_at 2 (within low high) extent rest.now) }
+    ensures gives { GivesSurely (λ x. (x.0, x.1.now)) result (ruled_at 2 (within low high) extent rest.now) }
     ensures shorter { IfOk result (λ x. length x.1.now ≤ length rest.now) }
 {
     let (value, after) = u16_at(extent, rest)?;
@@ -122,7 +122,7 @@ pub fn u32_within(
 ) -> Result<(u32, &[u8]), BlockFault>
     requires inside { length rest.now ≤ extent.end }
     requires fits { extent.end < 2 ^ 32 }
-    ensures gives { Answers (λ x. (x.0, x.1.now)) result (ruled_at 4 (within low high) extent rest.now) }
+    ensures gives { GivesSurely (λ x. (x.0, x.1.now)) result (ruled_at 4 (within low high) extent rest.now) }
     ensures shorter { IfOk result (λ x. length x.1.now ≤ length rest.now) }
 {
     let (value, after) = u32_at(extent, rest)?;
@@ -134,7 +134,7 @@ pub fn u32_within(
 pub fn u8_constant(extent: Extent, rest: &[u8], value: u8) -> Result<&[u8], BlockFault>
     requires inside { length rest.now ≤ extent.end }
     requires fits { extent.end < 2 ^ 32 }
-    ensures gives { Answers (λ x. (tt, x.now)) result (constant_at 1 value extent rest.now) }
+    ensures gives { GivesSurely (λ x. (tt, x.now)) result (constant_at 1 value extent rest.now) }
     ensures shorter { IfOk result (λ x. length x.now ≤ length rest.now) }
 {
     let (found, after) = u8_at(extent, rest)?;
@@ -146,7 +146,7 @@ pub fn u8_constant(extent: Extent, rest: &[u8], value: u8) -> Result<&[u8], Bloc
 pub fn u16_constant(extent: Extent, rest: &[u8], value: u16) -> Result<&[u8], BlockFault>
     requires inside { length rest.now ≤ extent.end }
     requires fits { extent.end < 2 ^ 32 }
-    ensures gives { Answers (λ x. (tt, x.now)) result (constant_at 2 value extent rest.now) }
+    ensures gives { GivesSurely (λ x. (tt, x.now)) result (constant_at 2 value extent rest.now) }
     ensures shorter { IfOk result (λ x. length x.now ≤ length rest.now) }
 {
     let (found, after) = u16_at(extent, rest)?;
@@ -158,7 +158,7 @@ pub fn u16_constant(extent: Extent, rest: &[u8], value: u16) -> Result<&[u8], Bl
 pub fn u32_constant(extent: Extent, rest: &[u8], value: u32) -> Result<&[u8], BlockFault>
     requires inside { length rest.now ≤ extent.end }
     requires fits { extent.end < 2 ^ 32 }
-    ensures gives { Answers (λ x. (tt, x.now)) result (constant_at 4 value extent rest.now) }
+    ensures gives { GivesSurely (λ x. (tt, x.now)) result (constant_at 4 value extent rest.now) }
     ensures shorter { IfOk result (λ x. length x.now ≤ length rest.now) }
 {
     let (found, after) = u32_at(extent, rest)?;
@@ -176,7 +176,7 @@ fn all_of_class(
     requires inside { length rest.now ≤ extent.end }
     requires fits { extent.end < 2 ^ 32 }
     requires there { count ≤ length rest.now }
-    ensures { Answers (λ _. tt) result (bytes_pass class count extent rest.now) }
+    ensures { GivesSurely (λ _. tt) result (bytes_pass class count extent rest.now) }
 {
     for place in 0..count {
         if !class.has(rest[place]) {
@@ -199,7 +199,7 @@ fn of_class(
 ) -> Result<(&[u8], &[u8]), BlockFault>
     requires inside { length rest.now ≤ extent.end }
     requires fits { extent.end < 2 ^ 32 }
-    ensures gives { Answers (λ x. (x.0.now, x.1.now)) result (class_at class count extent rest.now) }
+    ensures gives { GivesSurely (λ x. (x.0.now, x.1.now)) result (class_at class count extent rest.now) }
     ensures shorter { IfOk result (λ x. length x.1.now ≤ length rest.now) }
 {
     let (bytes, after) = raw(extent, rest, count)?;
@@ -212,7 +212,7 @@ fn of_class(
 pub fn pad(extent: Extent, rest: &[u8], count: usize) -> Result<&[u8], BlockFault>
     requires inside { length rest.now ≤ extent.end }
     requires fits { extent.end < 2 ^ 32 }
-    ensures gives { Answers (λ x. (tt, x.now)) result (pad_at count extent rest.now) }
+    ensures gives { GivesSurely (λ x. (tt, x.now)) result (pad_at count extent rest.now) }
     ensures shorter { IfOk result (λ x. length x.now ≤ length rest.now) }
 {
     let (_zeros, after) = of_class(extent, rest, count, ByteClass::Zero)?;
@@ -240,7 +240,7 @@ pub fn name(
 pub fn identifier(extent: Extent, rest: &[u8]) -> Result<([u8; 16], &[u8]), BlockFault>
     requires inside { length rest.now ≤ extent.end }
     requires fits { extent.end < 2 ^ 32 }
-    ensures gives { Answers (λ x. (x.0, x.1.now)) result (raw_at 16 extent rest.now) }
+    ensures gives { GivesSurely (λ x. (x.0, x.1.now)) result (raw_at 16 extent rest.now) }
     ensures shorter { IfOk result (λ x. length x.1.now ≤ length rest.now) }
 {
     let (bytes, after) = raw(extent, rest, 16)?;
@@ -252,7 +252,7 @@ pub fn identifier(extent: Extent, rest: &[u8]) -> Result<([u8; 16], &[u8]), Bloc
 /// Refuses bytes of a block that are left after its last field.
 pub fn end_of_block(extent: Extent, rest: &[u8]) -> Result<(), BlockFault>
     requires fits { extent.end < 2 ^ 32 }
-    ensures { Answers (λ _. tt) result (ended_at extent rest.now) }
+    ensures { GivesSurely (λ _. tt) result (ended_at extent rest.now) }
 {
     if rest.is_empty() {
         Ok(())
@@ -265,7 +265,7 @@ pub fn end_of_block(extent: Extent, rest: &[u8]) -> Result<(), BlockFault>
 pub fn end_of_input(bytes: &[u8], rest: &[u8]) -> Result<(), BlockFault>
     requires inside { length rest.now ≤ length bytes.now }
     requires near { length bytes.now - length rest.now < 2 ^ 32 }
-    ensures { Answers (λ _. tt) result (finished_at (length bytes.now) rest.now) }
+    ensures { GivesSurely (λ _. tt) result (finished_at (length bytes.now) rest.now) }
 {
     if rest.is_empty() {
         return Ok(());

@@ -1,7 +1,7 @@
 //! Block headers.
 
 ghost use Rattle.std.specs.Prelude.{◌≡◌, ◌≤◌, ◌<◌, ◌+◌, ◌-◌, ◌^◌, ◌++◌, length, min, take, drop, IfOk};
-ghost use Rattle.irt_block.specs.Reading.{Answers, fault_at, input_of};
+ghost use Rattle.irt_block.specs.Reading.{GivesSurely, fault_at, input_of};
 ghost use Rattle.irt_block.specs.Header.{header_at, open_at, header_bytes, end_of};
 
 use crate::extent::{Extent, Holder};
@@ -71,7 +71,7 @@ fn fault(kind: BlockKind, offset: u32) -> BlockFault
 pub fn open_block<'a>(extent: Extent, rest: &'a [u8], id: BlockId) -> Result<Opened<'a>, BlockFault>
     requires inside { length rest.now ≤ extent.end }
     requires near { min extent.end (extent.end - length rest.now + 65540) < 2 ^ 32 }
-    ensures gives { Answers (λ b. (b.extent, (b.fields.now, b.after.now))) result (open_at id extent rest.now) }
+    ensures gives { GivesSurely (λ b. (b.extent, (b.fields.now, b.after.now))) result (open_at id extent rest.now) }
     ensures inside { IfOk result (λ b. length b.fields.now ≤ b.extent.end) }
     ensures fits { IfOk result (λ b. b.extent.end < 2 ^ 32) }
     ensures end { IfOk result (λ b. b.extent.end ≤ extent.end) }

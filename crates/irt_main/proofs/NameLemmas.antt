@@ -2,7 +2,7 @@
 use Rattle.std.proofs.Common.{◌≡◌, ◌<◌, ℕ, zero, suc, List, [], ◌∷◌, ◌+◌, ◌++◌, ◌∙◌, ap, sym, take, length, get_or, arith}
 use Rattle.std.proofs.lemmas.List.{take_more}
 use Rattle.std.specs.List.{AllByRecursion}
-use Rattle.irt_topo.specs.Meets.{IsNameByte}
+use Rattle.plant_rules.specs.Meets.{IsNameByte}
 
 small_byte : (b : ℕ) → IsNameByte b → b < 128
 small_byte b is = grind arith

@@ -4,7 +4,7 @@ ghost use Rattle.std.specs.Prelude.{◌≡◌, ◌+◌, ◌≤◌, IfOk, IfErr, 
 ghost use Rattle.std.specs.List.{AllByRecursion};
 ghost use Rattle.irt_base.specs.Valid.{IsBundle};
 ghost use Rattle.irt_io.specs.Fault.{IsLater};
-ghost use Rattle.irt_topo.specs.Meets.{MeetsRules, IsDevice};
+ghost use Rattle.plant_rules.specs.Meets.{MeetsRules, IsDevice};
 ghost use Rattle.plan_rules.specs.Plan.{IsPlan};
 ghost use Rattle.irt_steps.specs.Follow.{Follows, Decides, HasCause, IsEnding, IsNoFault};
 ghost use Rattle.irt_main.specs.Commands.{check_steps, blocks_steps, bundles_steps, device_steps, verdict_steps, name_of, IsJudged};

@@ -6,7 +6,7 @@ ghost use Rattle.irt_base.specs.Valid.{IsBundle};
 ghost use Rattle.irt_block.specs.Header.{whole_of};
 ghost use Rattle.irt_bundle.specs.Bundles.{bundle_in};
 ghost use Rattle.irt_io.specs.Fault.{IsLater};
-ghost use Rattle.irt_topo.specs.Meets.{MeetsRules, IsNameByte};
+ghost use Rattle.plant_rules.specs.Meets.{MeetsRules, IsNameByte};
 ghost use Rattle.irt_topo.specs.Reading.{plant_of};
 ghost use Rattle.irt_steps.specs.Follow.{Follows, Answers, HasCause};
 ghost use Rattle.irt_main.specs.Commands.{plant_answer, plant_steps, bundle_answer, bundle_steps, device_file_of};

@@ -7,15 +7,15 @@ use Rattle.irt_base.specs.declared.limits.TheConstants.{MAX_DEVICES, MAX_PORTS}
 use Rattle.irt_base.specs.declared.numbers.DevId.{DevId}
 use Rattle.irt_base.specs.declared.numbers.PortNo.{PortNo}
 use Rattle.irt_base.specs.declared.plants.Plant.{Plant}
-use Rattle.irt_topo.specs.Meets.{MeetsRules}
+use Rattle.plant_rules.specs.Meets.{MeetsRules}
 use Rattle.link_index.specs.declared.index.Wire.{Wire}
 use Rattle.link_index.specs.Index.{peer_in, IsIndexOf}
 use Rattle.irt_route.specs.declared.fault.ClockFault.{ClockFault}
 use Rattle.irt_route.specs.declared.fault.ClockFault.TheVariants as faults
 use Rattle.irt_route.specs.Walks.{Peers, IsBestWalk, IsApart, HasHops}
-use Rattle.irt_route.specs.declared.ways.Way.{Way}
-use Rattle.irt_route.specs.declared.ways.Ways.{Ways}
-use Rattle.irt_route.specs.Ways.{IsWired, IsWay, AreWays}
+use Rattle.irt_route.specs.declared.next_hops.NextHop.{NextHop}
+use Rattle.irt_route.specs.declared.next_hops.NextHops.{NextHops}
+use Rattle.irt_route.specs.NextHops.{IsWired, IsNextHop, AreNextHops}
 use Rattle.irt_route.specs.Trees.{IsBestStep, IsTreeStep, Parents, parent_at, GrowsBy}
 use Rattle.irt_route.specs.Clocks.{ClockTable, HasClocks, IsCutOff, IsClockTreeOf, IsClockFault, IsGrownTree, IsGrownFault, hops_in}
 use Rattle.irt_route.proofs.TreeLaws.{parents_none, parents_more, none_to_start, last_step}
@@ -133,14 +133,14 @@ tree_of p tree m within has =
     }
 
 -- what a device's way says
-pub way_none : (peers : Peers) (ways : Ways) (start : ℕ) (device : DevId) → AreWays peers ways → ways.target ≡ device
+pub way_none : (peers : Peers) (ways : NextHops) (start : ℕ) (device : DevId) → AreNextHops peers ways → ways.target ≡ device
     → None ≡ get_or ways.table start None → IsApart peers start device.0
 way_none peers ways start device are target none =
     subst (λ (d : DevId). IsApart peers start d.0) target
-    (subst (λ (w : Option Way). IsWay peers ways.target.0 start w) (sym none) (are start))
+    (subst (λ (w : Option NextHop). IsNextHop peers ways.target.0 start w) (sym none) (are start))
 
-pub clocks_on : (peers : Peers) (ways : Ways) (n i : ℕ) (way : Way) (parents now : Parents) (hops : List ℕ) → n < MAX_DEVICES → way.hops < 256 → i ≡ n
-    → HasClocks peers n parents hops → AreWays peers ways → ways.target ≡ record { 0 = n } → Some way ≡ get_or ways.table 0 None
+pub clocks_on : (peers : Peers) (ways : NextHops) (n i : ℕ) (way : NextHop) (parents now : Parents) (hops : List ℕ) → n < MAX_DEVICES → way.hops < 256 → i ≡ n
+    → HasClocks peers n parents hops → AreNextHops peers ways → ways.target ≡ record { 0 = n } → Some way ≡ get_or ways.table 0 None
     → GrowsBy (IsBestStep peers 0 ways.target.0) parents now → HasClocks peers (n + 1) now (set hops i way.hops)
 clocks_on peers ways n i way parents now hops there small at has are target is grows =
     clocks_more peers n i way.hops parents now hops there small at has

@@ -9,9 +9,9 @@ use Rattle.irt_base.specs.declared.numbers.DevId.{DevId}
 use Rattle.irt_base.specs.declared.numbers.PortNo.{PortNo}
 use Rattle.irt_base.specs.declared.plants.Link.{Link}
 use Rattle.irt_base.specs.declared.plants.Plant.{Plant}
-use Rattle.irt_topo.specs.Clocks.{Leads, IsDistance, IsWalk as IsLinkWalk}
-use Rattle.irt_topo.specs.Rules.{share_port}
-use Rattle.irt_topo.specs.Meets.{IsLink, MeetsRules}
+use Rattle.plant_rules.specs.Clocks.{Leads, IsDistance, IsClockWalk}
+use Rattle.plant_rules.specs.Words.{share_port}
+use Rattle.plant_rules.specs.Meets.{IsLink, MeetsRules}
 use Rattle.irt_route.specs.Walks.{IsWalk, HasHops}
 use Rattle.irt_route.proofs.TreeLaws.{walk_append}
 
@@ -48,14 +48,14 @@ link_of p device port far (Some l) at is =
     (l, member, leads_by device port l (begins_at device port l) refl touch far (same_Some _ _ is))
 
 -- a walk by ports is one by links
-walk_on : (p : Plant) (ports : List PortNo) (n start end : ℕ) → IsLinkWalk p n start → IsWalk (peer_of p) start ports end
-    → IsLinkWalk p (n + length ports) end
+walk_on : (p : Plant) (ports : List PortNo) (n start end : ℕ) → IsClockWalk p n start → IsWalk (peer_of p) start ports end
+    → IsClockWalk p (n + length ports) end
 walk_on p [] n start end before walk =
-    let P : ℕ → Type 0 = λ m. IsLinkWalk p m end in
+    let P : ℕ → Type 0 = λ m. IsClockWalk p m end in
     let sum : n ≡ n + length {A = PortNo} [] = omega arith in
-    subst P sum (subst (λ (d : ℕ). IsLinkWalk p n d) walk before)
+    subst P sum (subst (λ (d : ℕ). IsClockWalk p n d) walk before)
 walk_on p (port ∷ rest) n start end before (far, at, walk) =
-    let P : ℕ → Type 0 = λ m. IsLinkWalk p m end in
+    let P : ℕ → Type 0 = λ m. IsClockWalk p m end in
     let sum : suc n + length rest ≡ n + length (port ∷ rest) = omega arith in
     subst P sum (walk_on p rest (suc n) far.0.0 end (start, before, link_of p start port.0 far (link_at p start port.0) refl at) walk)
 
@@ -138,7 +138,7 @@ port_of_link p before device l m member (inr back) =
     (l.b_port, ((l.a, l.a_port), ap (λ d. peer_of p d l.b_port.0) (sym back.0) ∙ second_peer p l m member, back.1))
 
 -- a walk by links is one by ports
-pub ports_of_links : (p : Plant) (n device : ℕ) → MeetsRules p → IsLinkWalk p n device
+pub ports_of_links : (p : Plant) (n device : ℕ) → MeetsRules p → IsClockWalk p n device
     → (ports : List PortNo) × IsWalk (peer_of p) 0 ports device × (length ports ≡ n)
 ports_of_links p zero device m walk = ([], sym walk, refl)
 ports_of_links p (suc n) device m (before, walk, (l, member, lead)) =
@@ -156,7 +156,7 @@ pub distance : (p : Plant) (device hops : ℕ) → MeetsRules p → HasHops (pee
 distance p device hops m has =
     record {
       walk =
-          (let P : ℕ → Type 0 = λ n. IsLinkWalk p n device in
+          (let P : ℕ → Type 0 = λ n. IsClockWalk p n device in
           let sum : 0 + length has.ports ≡ hops = omega (arith, has.long) in
           subst P sum (walk_on p has.ports 0 0 device refl has.best.walk));
       shortest = λ fewer walk.

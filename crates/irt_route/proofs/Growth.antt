@@ -7,7 +7,7 @@ use Rattle.irt_base.specs.declared.limits.TheConstants.{MAX_DEVICES}
 use Rattle.irt_base.specs.declared.numbers.DevId.{DevId}
 use Rattle.irt_base.specs.declared.numbers.PortNo.{PortNo}
 use Rattle.irt_route.specs.Walks.{Peers, IsWalk, IsBestWalk, IsApart, IsFoundWalk, far_of}
-use Rattle.irt_route.specs.Ways.{IsWired}
+use Rattle.irt_route.specs.NextHops.{IsWired}
 use Rattle.irt_route.specs.Trees.{IsStep, IsBestStep, Parents, parent_at, GrowsBy, marked, grown}
 use Rattle.irt_route.proofs.WalkLaws.{same_best}
 

@@ -1,5 +1,5 @@
 pub mod WalkLaws
-pub mod WayLaws
+pub mod NextHopLaws
 pub mod Follow
 pub mod Growth
 pub mod Distances

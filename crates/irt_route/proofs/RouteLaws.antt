@@ -12,15 +12,15 @@ use Rattle.irt_base.specs.declared.numbers.PortNo.{PortNo}
 use Rattle.irt_base.specs.declared.plants.Demand.{Demand}
 use Rattle.irt_base.specs.declared.plants.Traffic.{Traffic}
 use Rattle.irt_base.specs.declared.plants.Plant.{Plant}
-use Rattle.irt_topo.specs.Meets.{MeetsRules}
+use Rattle.plant_rules.specs.Meets.{MeetsRules}
 use Rattle.irt_route.specs.declared.fault.RouteFault.{RouteFault}
 use Rattle.irt_route.specs.declared.fault.RouteFault.TheVariants as faults
-use Rattle.irt_route.specs.declared.ways.Way.{Way}
-use Rattle.irt_route.specs.declared.ways.Ways.{Ways}
+use Rattle.irt_route.specs.declared.next_hops.NextHop.{NextHop}
+use Rattle.irt_route.specs.declared.next_hops.NextHops.{NextHops}
 use Rattle.irt_route.specs.Walks.{Peers, IsWalk, IsBestWalk, IsApart}
-use Rattle.irt_route.specs.Ways.{IsWay}
-use Rattle.irt_route.specs.Trees.{Parents, parent_at, IsBestStep, IsTreeStep, IsParent, AreParents, GrowsBy}
-use Rattle.irt_route.specs.Routes.{RouteTables, IsAmong, IsConsumer, IsRoutesOf, IsUnreached, IsFirstPlace, AreReached, IsFirstCutTraffic, IsFaultOf, IsRouteFault, AreAllWays, AreDemandsWithin, AreTrafficWithin, AreTrees, AreTrafficWalks, IsTrafficFault}
+use Rattle.irt_route.specs.NextHops.{IsNextHop}
+use Rattle.irt_route.specs.Trees.{Parents, parent_at, IsBestStep, IsTreeStep, IsTreeParent, AreParents, GrowsBy}
+use Rattle.irt_route.specs.Routes.{RouteTables, IsAmong, IsConsumer, IsRoutesOf, IsUnreached, IsFirstPlace, AreReached, IsFirstCutTraffic, IsFaultOf, IsRouteFault, AreAllNextHops, AreDemandsWithin, AreTrafficWithin, AreTrees, AreTrafficWalks, IsTrafficFault}
 use Rattle.link_index.specs.declared.index.Wire.{Wire}
 use Rattle.link_index.specs.Index.{peer_in, IsIndexOf}
 use Rattle.irt_route.proofs.ClockLaws.{same_peers}
@@ -146,7 +146,7 @@ tree_done peers start demand xs i t same past are =
 
 -- what a table of parents says of a device
 parent_from : (peers : Peers) (start : DevId) (IsEnd : ℕ → Type 0) (parents : Parents) (device : ℕ) → AreParents (IsTreeStep peers start.0 IsEnd) parents
-    → (parent : Option (DevId × PortNo)) → parent_at parents device ≡ parent → IsParent peers start.0 IsEnd device parent
+    → (parent : Option (DevId × PortNo)) → parent_at parents device ≡ parent → IsTreeParent peers start.0 IsEnd device parent
 parent_from peers start IsEnd parents device are (Some from) is = are.sound device from is
 parent_from peers start IsEnd parents device are None is =
     elim (cases_eq device start.0) [
@@ -162,18 +162,18 @@ parent_from peers start IsEnd parents device are None is =
         are.complete device last.from (front_step peers start IsEnd device end (p ∷ ps) back is_end best last) is
 
 -- where no consumer is without a walk, each has one
-pub reached : (peers : Peers) (all : List Ways) (demands : List Demand) → AreAllWays peers all → AreDemandsWithin (length all) demands
+pub reached : (peers : Peers) (all : List NextHops) (demands : List Demand) → AreAllNextHops peers all → AreDemandsWithin (length all) demands
     → IsFirstPlace (IsUnreached peers demands) None → AreReached peers demands
 reached peers all demands ways within none demand member device (c, among, same) =
     elim ((slice_get_cases all device).1) [
       | inl there ↦
           let (to, are) = ways.ways device there.0 there.2 in
           way_there (get_or there.0.table demand.provider.0 None)
-          (subst (λ (d : ℕ). IsWay peers d demand.provider.0 (get_or there.0.table demand.provider.0 None)) to (are demand.provider.0))
+          (subst (λ (d : ℕ). IsNextHop peers d demand.provider.0 (get_or there.0.table demand.provider.0 None)) to (are demand.provider.0))
       | inr past ↦ absurd (omega (arith, within demand member c among, same, past.0))
     ]
   where
-    way_there : (way : Option Way) → IsWay peers device demand.provider.0 way → (ports : List PortNo) × IsBestWalk peers demand.provider.0 ports device
+    way_there : (way : Option NextHop) → IsNextHop peers device demand.provider.0 way → (ports : List PortNo) × IsBestWalk peers demand.provider.0 ports device
     way_there None apart =
         absurd (none demand.frame.0 device (demand, member, record { frame_is = refl; consumer = (c, among, same); apart = apart }))
     way_there (Some w) (ports, best, of) = (ports, best)

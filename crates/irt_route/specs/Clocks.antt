@@ -7,8 +7,8 @@ use Rattle.irt_base.specs.declared.numbers.DevId.{DevId}
 use Rattle.irt_base.specs.declared.numbers.PortNo.{PortNo}
 use Rattle.irt_base.specs.declared.plants.Plant.{Plant}
 use Rattle.irt_base.specs.declared.plants.SyncPlan.{SyncPlan}
-use Rattle.irt_topo.specs.Clocks.{IsDistance}
-use Rattle.irt_topo.specs.Meets.{MeetsRules}
+use Rattle.plant_rules.specs.Clocks.{IsDistance}
+use Rattle.plant_rules.specs.Meets.{MeetsRules}
 use Rattle.irt_route.specs.declared.fault.ClockFault.{ClockFault}
 use Rattle.irt_route.specs.declared.fault.ClockFault.TheVariants as faults
 use Rattle.irt_route.specs.Walks.{Peers, IsWalk, IsApart, HasHops}

@@ -1,5 +1,5 @@
 pub mod Clocks
 pub mod Trees
 pub mod Walks
-pub mod Ways
+pub mod NextHops
 pub mod Routes

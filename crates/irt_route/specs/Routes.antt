@@ -8,15 +8,15 @@ use Rattle.irt_base.specs.declared.numbers.PortNo.{PortNo}
 use Rattle.irt_base.specs.declared.plants.Demand.{Demand}
 use Rattle.irt_base.specs.declared.plants.Traffic.{Traffic}
 use Rattle.irt_base.specs.declared.plants.Plant.{Plant}
-use Rattle.irt_topo.specs.Meets.{MeetsRules}
+use Rattle.plant_rules.specs.Meets.{MeetsRules}
 use Rattle.link_index.specs.declared.index.Wire.{Wire}
 use Rattle.link_index.specs.Index.{peer_in}
 use Rattle.irt_route.specs.declared.fault.RouteFault.{RouteFault}
 use Rattle.irt_route.specs.declared.fault.RouteFault.TheVariants as faults
-use Rattle.irt_route.specs.declared.ways.Ways.{Ways}
+use Rattle.irt_route.specs.declared.next_hops.NextHops.{NextHops}
 use Rattle.irt_route.specs.Walks.{Peers, IsWalk, IsBestWalk, IsApart}
-use Rattle.irt_route.specs.Ways.{IsWired, AreWays}
-use Rattle.irt_route.specs.Trees.{Parents, parent_at, IsParent, IsTreeStep, AreParents}
+use Rattle.irt_route.specs.NextHops.{IsWired, AreNextHops}
+use Rattle.irt_route.specs.Trees.{Parents, parent_at, IsTreeParent, IsTreeStep, AreParents}
 
 -- the parents of each demand's tree, and the ports of each traffic entry's walk
 pub record RouteTables : Type 0 where
@@ -39,7 +39,7 @@ IsConsumer demand device = IsAmong demand.consumers device
 -- a tree to all consumers of a demand
 pub record IsTreeOf (peers : Peers) (demand : Demand) (parents : Parents) : Type 0 where
   pub reached : (device : ℕ) → IsConsumer demand device → (ports : List PortNo) × IsBestWalk peers demand.provider.0 ports device
-  pub tree : (device : ℕ) → IsParent peers demand.provider.0 (IsConsumer demand) device (parent_at parents device)
+  pub tree : (device : ℕ) → IsTreeParent peers demand.provider.0 (IsConsumer demand) device (parent_at parents device)
 
 -- the tables are the routes of a plant that meets the rules
 pub record IsRoutesOf (plant : Plant) (routes : RouteTables) : Type 0 where
@@ -99,13 +99,13 @@ abbrev pub IsRouteFault : Plant → RouteFault → Type 0
 IsRouteFault plant fault = IsFaultOf (peer_of plant) plant.demands plant.traffic fault
 
 -- The ways of all devices to each.
-pub record AreAllWays (peers : Peers) (all : List Ways) : Type 0 where
+pub record AreAllNextHops (peers : Peers) (all : List NextHops) : Type 0 where
   pub wired : IsWired peers
   pub few : length all ≤ MAX_DEVICES
-  pub ways : (device : ℕ) (ways : Ways) → slice_get all device ≡ Some ways → (ways.target.0 ≡ device) × AreWays peers ways
+  pub ways : (device : ℕ) (ways : NextHops) → slice_get all device ≡ Some ways → (ways.target.0 ≡ device) × AreNextHops peers ways
 
-abbrev pub IsNetwork : List (List (Option Wire)) → List Ways → Type 0
-IsNetwork rows all = AreAllWays (peer_in rows) all
+abbrev pub IsNetwork : List (List (Option Wire)) → List NextHops → Type 0
+IsNetwork rows all = AreAllNextHops (peer_in rows) all
 
 -- the devices that a demand or a traffic entry names are on the network
 abbrev pub IsDemandWithin : ℕ → Demand → Type 0

@@ -37,9 +37,9 @@ pub record IsOnTree (peers : Peers) (start : ℕ) (IsEnd : ℕ → Type 0) (devi
   pub here : IsWalk peers start front device
 
 -- the device and port from which the tree comes to a device
-abbrev pub IsParent : Peers → ℕ → (ℕ → Type 0) → ℕ → Option (DevId × PortNo) → Type 0
-IsParent peers start IsEnd device None = (device ≡ start) ⊎ (IsOnTree peers start IsEnd device → ⊥)
-IsParent peers start IsEnd device (Some from) = IsTreeStep peers start IsEnd from device
+abbrev pub IsTreeParent : Peers → ℕ → (ℕ → Type 0) → ℕ → Option (DevId × PortNo) → Type 0
+IsTreeParent peers start IsEnd device None = (device ≡ start) ⊎ (IsOnTree peers start IsEnd device → ⊥)
+IsTreeParent peers start IsEnd device (Some from) = IsTreeStep peers start IsEnd from device
 
 -- A table of parents. It has an entry exactly where some step comes to the device.
 abbrev pub Parents : Type 0

@@ -1,14 +1,14 @@
 //! The tree by which clocks follow device 0.
 
 ghost use Rattle.std.specs.Prelude.{◌≡◌, ◌≤◌, ◌<◌, slice_index, IfOk, IfErr};
-ghost use Rattle.irt_topo.specs.Meets.{MeetsRules};
+ghost use Rattle.plant_rules.specs.Meets.{MeetsRules};
 ghost use Rattle.link_index.specs.Index.{peer_in};
 ghost use Rattle.irt_route.specs.Clocks.{IsClockTreeOf, IsClockFault, IsGrownTree, IsGrownFault, clock_parent, hops_in, clock_budget};
-ghost use Rattle.irt_route.specs.Ways.{IsWired};
+ghost use Rattle.irt_route.specs.NextHops.{IsWired};
 
 use crate::fault::ClockFault;
 use crate::trees::{Parents, add_walk, parent_at};
-use crate::ways::ways_to;
+use crate::next_hops::next_hops_to;
 use irt_base::cycles::budget_over;
 use irt_base::limits::{MAX_DEVICES, MAX_SEND, MAX_TIMEOUT};
 use irt_base::numbers::{DevId, PortNo};
@@ -75,7 +75,7 @@ fn grown_tree(alloc: Global, index: &LinkIndex, devices: u8) -> Result<ClockTree
     let mut parents = [None; MAX_DEVICES];
     let mut hops = [0; MAX_DEVICES];
     for device in 0..devices {
-        let ways = ways_to(index, DevId(device));
+        let ways = next_hops_to(index, DevId(device));
         let Some(way) = ways.way_of(DevId(0)) else {
             return Err(ClockFault::NoClock {
                 device: DevId(device),

@@ -12,4 +12,4 @@ mod tests;
 pub mod trees;
 pub mod unreached;
 pub mod walks;
-pub mod ways;
+pub mod next_hops;

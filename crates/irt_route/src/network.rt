@@ -6,11 +6,11 @@ ghost use Rattle.link_index.specs.Index.{peer_in};
 ghost use Rattle.irt_route.specs.Routes.{IsNetwork};
 ghost use Rattle.irt_route.specs.Trees.{GrowsBy, IsBestStep};
 ghost use Rattle.irt_route.specs.Walks.{IsFoundWalk};
-ghost use Rattle.irt_route.specs.Ways.{IsWired, IsWay, AreWays};
+ghost use Rattle.irt_route.specs.NextHops.{IsWired, IsNextHop, AreNextHops};
 
 use crate::trees::{Parents, add_walk};
 use crate::walks::{Walk, walk_to};
-use crate::ways::{Way, Ways, ways_to};
+use crate::next_hops::{NextHop, NextHops, next_hops_to};
 use irt_base::limits::MAX_DEVICES;
 use irt_base::list::Items;
 use irt_base::memory::NoMemory;
@@ -22,7 +22,7 @@ use std::alloc::Global;
 #[derive(Drop, Debug)]
 pub struct Network {
     pub index: LinkIndex,
-    pub ways: Items<Ways>,
+    pub ways: Items<NextHops>,
 }
 
 /// The network of the first so many devices of an index.
@@ -35,17 +35,17 @@ pub fn network_of(alloc: Global, index: LinkIndex, devices: usize) -> Result<Net
 {
     let mut ways = Items::new(alloc);
     for device in 0..devices {
-        ways.push(ways_to(&index, DevId(device as u8)))?;
+        ways.push(next_hops_to(&index, DevId(device as u8)))?;
     }
     Ok(Network { index, ways })
 }
 
 impl Network {
     /// The way of a device to a target.
-    pub fn way(&self, start: DevId, target: DevId) -> Option<Way>
+    pub fn way(&self, start: DevId, target: DevId) -> Option<NextHop>
         requires network { IsNetwork self.now.index self.now.ways }
         requires there { target.0 < length self.now.ways }
-        ensures { IsWay (peer_in self.now.index) target.0 start.0 result }
+        ensures { IsNextHop (peer_in self.now.index) target.0 start.0 result }
     {
         self.ways.as_slice()[usize::from(target.0)].way_of(start)
     }

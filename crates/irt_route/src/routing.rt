@@ -1,7 +1,7 @@
 //! The routes of a plant.
 
 ghost use Rattle.std.specs.Prelude.{◌≡◌, ◌<◌, ◌≤◌, IfOk, IfErr, length, map};
-ghost use Rattle.irt_topo.specs.Meets.{MeetsRules};
+ghost use Rattle.plant_rules.specs.Meets.{MeetsRules};
 ghost use Rattle.link_index.specs.Index.{peer_in};
 ghost use Rattle.irt_route.specs.Routes.{IsRoutesOf, IsRouteFault, IsFaultOf, IsNetwork, IsDemandWithin, AreDemandsWithin, AreTrafficWithin, IsConsumer, AreTrees, AreTrafficWalks, AreReached, IsTrafficFault};
 ghost use Rattle.irt_route.specs.Trees.{IsTreeStep, AreParents};

@@ -1,7 +1,7 @@
 //! Routes and clock trees of small plants, and of a long and a wide one.
 
 ghost use Rattle.std.specs.Prelude.{IfOk};
-ghost use Rattle.irt_topo.specs.Meets.{MeetsRules};
+ghost use Rattle.plant_rules.specs.Meets.{MeetsRules};
 
 use crate::clocks::{budget, clock_tree};
 use crate::fault::{ClockFault, RouteFault};

@@ -4,10 +4,10 @@ ghost use Rattle.std.specs.Prelude.{◌≡◌, OnOk};
 ghost use Rattle.link_index.specs.Index.{peer_in};
 ghost use Rattle.irt_route.specs.Trees.{parent_at, GrowsBy, IsBestStep, marked, grown};
 ghost use Rattle.irt_route.specs.Walks.{far_of};
-ghost use Rattle.irt_route.specs.Ways.{IsWired, AreWays};
+ghost use Rattle.irt_route.specs.NextHops.{IsWired, AreNextHops};
 
 use crate::walks::walk_to;
-use crate::ways::Ways;
+use crate::next_hops::NextHops;
 use irt_base::limits::MAX_DEVICES;
 use irt_base::memory::NoMemory;
 use irt_base::numbers::{DevId, PortNo};
@@ -33,12 +33,12 @@ pub fn parent_at(parents: &Parents, device: DevId) -> Option<(DevId, PortNo)>
 pub fn add_walk(
     alloc: Global,
     index: &LinkIndex,
-    ways: &Ways,
+    ways: &NextHops,
     start: DevId,
     parents: &mut Parents,
 ) -> Result<(), NoMemory>
     requires wired { IsWired (peer_in index.now) }
-    requires ways { AreWays (peer_in index.now) ways.now }
+    requires ways { AreNextHops (peer_in index.now) ways.now }
     ensures { OnOk result (GrowsBy (IsBestStep (peer_in index.now) start.0 ways.now.target.0) parents.old parents.new) }
 {
     let Some(walk) = walk_to(alloc, index, ways, start)? else {

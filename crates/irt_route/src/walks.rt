@@ -4,9 +4,9 @@ ghost use Rattle.std.specs.Prelude.{◌≡◌, ◌<◌, IfOk};
 ghost use Rattle.std.specs.Option.{option_map};
 ghost use Rattle.link_index.specs.Index.{peer_in};
 ghost use Rattle.irt_route.specs.Walks.{far_of, IsBestWalk, IsFoundWalk, IsFirstStep, HasHops};
-ghost use Rattle.irt_route.specs.Ways.{port_of, IsWired, AreWays};
+ghost use Rattle.irt_route.specs.NextHops.{port_of, IsWired, AreNextHops};
 
-use crate::ways::{Way, Ways};
+use crate::next_hops::{NextHop, NextHops};
 use irt_base::memory::NoMemory;
 use irt_base::numbers::{DevId, PortNo};
 use link_index::index::LinkIndex;
@@ -20,11 +20,11 @@ pub type Walk = SmallVec<PortNo, 8>;
 pub fn walk_to(
     alloc: Global,
     index: &LinkIndex,
-    ways: &Ways,
+    ways: &NextHops,
     start: DevId,
 ) -> Result<Option<Walk>, NoMemory>
     requires wired { IsWired (peer_in index.now) }
-    requires ways { AreWays (peer_in index.now) ways.now }
+    requires ways { AreNextHops (peer_in index.now) ways.now }
     ensures { IfOk result (λ walk. IsFoundWalk (peer_in index.now) start.0 ways.now.target.0 (option_map (λ w. w.items) walk)) }
 {
     match ways.way_of(start) {
@@ -37,11 +37,11 @@ pub fn walk_to(
 fn follow(
     alloc: Global,
     index: &LinkIndex,
-    ways: &Ways,
+    ways: &NextHops,
     start: DevId,
     hops: u8,
 ) -> Result<Walk, NoMemory>
-    requires ways { AreWays (peer_in index.now) ways.now }
+    requires ways { AreNextHops (peer_in index.now) ways.now }
     requires hops { HasHops (peer_in index.now) start.0 ways.now.target.0 hops }
     ensures { IfOk result (λ walk. IsBestWalk (peer_in index.now) start.0 walk.items ways.now.target.0) }
 {
@@ -56,8 +56,8 @@ fn follow(
 }
 
 /// The port by which the best walk leaves, and the device to which it comes.
-fn first_step(index: &LinkIndex, ways: &Ways, start: DevId) -> (PortNo, DevId)
-    requires ways { AreWays (peer_in index.now) ways.now }
+fn first_step(index: &LinkIndex, ways: &NextHops, start: DevId) -> (PortNo, DevId)
+    requires ways { AreNextHops (peer_in index.now) ways.now }
     ensures { IsFirstStep (peer_in index.now) start.0 ways.now.target.0 result }
 {
     let port = port_of(ways.way_of(start));
@@ -65,7 +65,7 @@ fn first_step(index: &LinkIndex, ways: &Ways, start: DevId) -> (PortNo, DevId)
     (port, next)
 }
 
-fn port_of(way: Option<Way>) -> PortNo
+fn port_of(way: Option<NextHop>) -> PortNo
     ensures { result ≡ port_of way }
 {
     match way {

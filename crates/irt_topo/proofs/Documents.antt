@@ -6,8 +6,8 @@ use Rattle.plant_shape.specs.declared.fault.ShapeFault.{ShapeFault}
 use Rattle.plant_shape.specs.declared.raw.RawPlant.{RawPlant}
 use Rattle.irt_topo.specs.Stated.{stated_plant}
 use Rattle.irt_topo.specs.Rules.{first_failure}
-use Rattle.irt_topo.specs.Meets.{MeetsRules}
-use Rattle.irt_topo.specs.Reading.{judged, judged_shape, plant_of, Answers, IsPlantDocument}
+use Rattle.plant_rules.specs.Meets.{MeetsRules}
+use Rattle.irt_topo.specs.Reading.{judged, judged_shape, plant_of, IsPlantAnswer, IsPlantDocument}
 use Rattle.irt_topo.specs.declared.rules.Rule.{Rule}
 use Rattle.irt_topo.specs.declared.fault.PlantFault.{PlantFault}
 use Rattle.irt_topo.proofs.Meeting.{MeetsRules-from_none, first_failure-from_MeetsRules}
@@ -53,13 +53,13 @@ plant_of-document bytes p d =
     ∙ judged_none (stated_plant d.raw) (first_failure (stated_plant d.raw)) (first_failure-from_MeetsRules (stated_plant d.raw) meets)
     ∙ ap stated_ok d.stated
 
-pub document_read : (bytes : List ℕ) (r : Result Plant PlantFault) → Answers r (plant_of bytes) → IfOk r (IsPlantDocument bytes)
+pub document_read : (bytes : List ℕ) (r : Result Plant PlantFault) → IsPlantAnswer r (plant_of bytes) → IfOk r (IsPlantDocument bytes)
 document_read bytes (Ok p) h = document-from_plant_of bytes p h
 document_read bytes (Err e) h = tt
 
-pub rules_met : (bytes : List ℕ) (r : Result Plant PlantFault) → Answers r (plant_of bytes) → IfOk r MeetsRules
+pub rules_met : (bytes : List ℕ) (r : Result Plant PlantFault) → IsPlantAnswer r (plant_of bytes) → IfOk r MeetsRules
 rules_met bytes (Ok p) h = (document-from_plant_of bytes p h).rules
 rules_met bytes (Err e) h = tt
 
-pub only_plant : (bytes : List ℕ) (r : Result Plant PlantFault) → Answers r (plant_of bytes) → (p : Plant) → IsPlantDocument bytes p → Answers r (Ok p)
-only_plant bytes r h p d = let P : Result Plant PlantFault → Type 0 = λ stated. Answers r stated in subst P (plant_of-document bytes p d) h
+pub only_plant : (bytes : List ℕ) (r : Result Plant PlantFault) → IsPlantAnswer r (plant_of bytes) → (p : Plant) → IsPlantDocument bytes p → IsPlantAnswer r (Ok p)
+only_plant bytes r h p d = let P : Result Plant PlantFault → Type 0 = λ stated. IsPlantAnswer r stated in subst P (plant_of-document bytes p d) h

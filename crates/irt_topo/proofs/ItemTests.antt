@@ -9,8 +9,9 @@ use Rattle.irt_base.specs.declared.numbers.DevId.{DevId}
 use Rattle.irt_base.specs.declared.blocks.PortDelay.{PortDelay}
 use Rattle.irt_base.specs.declared.plants.SyncPlan.{SyncPlan}
 use Rattle.irt_base.specs.declared.plants.Plant.{Plant}
-use Rattle.irt_topo.specs.Rules.{is_within, is_name_byte, is_name, is_port_delay, is_device, all_differ, is_loss, is_sync_plan, words_hold, words_where, consumes, provides}
-use Rattle.irt_topo.specs.Meets.{IsName, IsNameByte, IsConsumer, same_device, IsSyncPlan, HasWords}
+use Rattle.plant_rules.specs.Words.{is_within, words_where, consumes, provides}
+use Rattle.irt_topo.specs.Rules.{is_name_byte, is_name, is_port_delay, is_device, all_differ, is_loss, is_sync_plan, words_hold}
+use Rattle.plant_rules.specs.Meets.{IsName, IsNameByte, IsConsumer, same_device, IsSyncPlan, HasWords}
 use Rattle.irt_topo.proofs.Passing.{AllByRecursion-from_list_all, list_all-from_AllByRecursion}
 
 pub within : (low high n : ℕ) → is_within low high n ≡ true → IsWithin low high n

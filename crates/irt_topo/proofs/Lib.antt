@@ -1,4 +1,3 @@
-pub mod Delays
 pub mod Documents
 pub mod ItemTests
 pub mod LeastFrom

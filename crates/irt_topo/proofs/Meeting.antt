@@ -8,8 +8,9 @@ use Rattle.irt_base.specs.declared.plants.Device.{Device}
 use Rattle.irt_base.specs.declared.plants.Link.{Link}
 use Rattle.irt_base.specs.declared.plants.Demand.{Demand}
 use Rattle.irt_base.specs.declared.plants.Plant.{Plant}
-use Rattle.irt_topo.specs.Rules.{is_name, same_name, share_port, same_frame, same_app_device, is_sync_plan, follows_clock, device_name_holds, device_ports_hold, bridge_holds, link_ends_hold, link_delay_holds, frame_holds, demand_ends_hold, length_holds, update_holds, traffic_holds, app_holds, rule_order, first_failure}
-use Rattle.irt_topo.specs.Meets.{IsDevice, IsLink, IsDemand, IsTraffic, IsApp, MeetsRules}
+use Rattle.plant_rules.specs.Words.{same_name, share_port, same_frame, same_app_device}
+use Rattle.irt_topo.specs.Rules.{is_name, is_sync_plan, follows_clock, device_name_holds, device_ports_hold, bridge_holds, link_ends_hold, link_delay_holds, frame_holds, demand_ends_hold, length_holds, update_holds, traffic_holds, app_holds, rule_order, first_failure}
+use Rattle.plant_rules.specs.Meets.{IsDevice, IsLink, IsDemand, IsTraffic, IsApp, MeetsRules}
 use Rattle.irt_topo.proofs.Passing.{EachPasses, EachPasses-from_places, passes_at-from_EachPasses, EachPasses-all, EachPasses-count, EachPasses-distinct, EachPasses-from_all, EachPasses-from_distinct, fresh_at_first, AllByRecursion-both}
 use Rattle.irt_topo.proofs.ItemTests.{within, within-back, name-back, sync_plan, sync_plan-back, words, words-back, data_length-back}
 use Rattle.irt_topo.proofs.RuleLaws.{AllHold, none_fails, none_fails-back, name_of, name_is_new, name_gives, device_from, device_ports_back, bridge_back, HasEnds, ends_of, ports_are_new, ends_give, link_from, link_ends_back, link_times_back, frame_of, frame_count, frame_is_new, frame_gives, demand_from, demand_ends_back, traffic_count, traffic_from, traffic_gives, app_of, app_is_new, app_gives, clock_of, clock_gives}

@@ -13,9 +13,11 @@ use Rattle.irt_base.specs.declared.plants.Demand.{Demand}
 use Rattle.irt_base.specs.declared.plants.Traffic.{Traffic}
 use Rattle.irt_base.specs.declared.plants.App.{App}
 use Rattle.irt_base.specs.declared.plants.Plant.{Plant}
-use Rattle.irt_topo.specs.Clocks.{HasClock, has_clock}
-use Rattle.irt_topo.specs.Rules.{is_within, fits_cycle, is_device, is_name, same_name, is_port_delay, has_port, share_port, hop_there, hop_back, same_frame, all_differ, same_app_device, follows_clock, device_name_holds, device_ports_hold, bridge_holds, link_ends_hold, link_delay_holds, frame_holds, demand_ends_hold, length_holds, update_holds, has_two_ends, has_ranges, traffic_holds, app_holds, holds, places, least_failing, or_next, first_failing}
-use Rattle.irt_topo.specs.Meets.{IsDevice, IsLink, IsDemand, IsTraffic, IsApp}
+use Rattle.plant_rules.specs.Clocks.{HasClock}
+use Rattle.irt_topo.specs.Clocks.{has_clock}
+use Rattle.plant_rules.specs.Words.{is_within, same_name, has_port, share_port, hop_there, hop_back, same_frame, same_app_device}
+use Rattle.irt_topo.specs.Rules.{fits_cycle, is_device, is_name, is_port_delay, all_differ, follows_clock, device_name_holds, device_ports_hold, bridge_holds, link_ends_hold, link_delay_holds, frame_holds, demand_ends_hold, length_holds, update_holds, has_two_ends, has_ranges, traffic_holds, app_holds, holds, places, least_failing, or_next, first_failing}
+use Rattle.plant_rules.specs.Meets.{IsDevice, IsLink, IsDemand, IsTraffic, IsApp}
 use Rattle.irt_topo.specs.declared.rules.Rule.{Rule}
 use Rattle.irt_topo.proofs.LeastFrom.{none_passes, least_from-is_none}
 use Rattle.irt_topo.proofs.Passing.{AllByRecursion-from_list_all, list_all-from_AllByRecursion}

@@ -6,7 +6,8 @@ use Rattle.std.specs.Option.{option_map_or}
 use Rattle.irt_base.specs.declared.plants.Link.{Link}
 use Rattle.irt_base.specs.declared.plants.SyncPlan.{SyncPlan}
 use Rattle.irt_base.specs.declared.plants.Plant.{Plant}
-use Rattle.irt_topo.specs.Clocks.{Leads, IsWalk, IsDistance, HasClock, clock_budget, joins, is_reached, hops_within, has_clock}
+use Rattle.plant_rules.specs.Clocks.{Leads, IsClockWalk, IsDistance, HasClock, clock_budget}
+use Rattle.irt_topo.specs.Clocks.{joins, is_reached, hops_within, has_clock}
 use Rattle.irt_topo.proofs.LeastFrom.{found_passes, none_passes}
 
 -- some item passes
@@ -42,7 +43,7 @@ leads-back reached before device link is (inr back) =
     (and_from (reached link.b.0) (link.a.0 == device) (ap reached back.0 ∙ is) (eq-eqb _ _ back.1))
 
 -- what is reached has a walk, no longer than the rounds
-pub reached_walk : (p : Plant) (rounds device : ℕ) → is_reached p rounds device ≡ true → (links : ℕ) × (links ≤ rounds) × IsWalk p links device
+pub reached_walk : (p : Plant) (rounds device : ℕ) → is_reached p rounds device ≡ true → (links : ℕ) × (links ≤ rounds) × IsClockWalk p links device
 reached_walk p zero device h = (0, omega arith, eqb-true device 0 h)
 reached_walk p (suc rounds) device h =
     elim (or_cases (is_reached p rounds device) (list_any (joins (λ d. is_reached p rounds d) device) p.links) h) [
@@ -57,7 +58,7 @@ reached_walk p (suc rounds) device h =
 stays : (p : Plant) (rounds device : ℕ) → is_reached p rounds device ≡ true → is_reached p (suc rounds) device ≡ true
 stays p rounds device h = or_left (is_reached p rounds device) (list_any (joins (λ d. is_reached p rounds d) device) p.links) h
 
-walk_in : (p : Plant) (links device : ℕ) → IsWalk p links device → is_reached p links device ≡ true
+walk_in : (p : Plant) (links device : ℕ) → IsClockWalk p links device → is_reached p links device ≡ true
 walk_in p zero device walk = eq-eqb device 0 walk
 walk_in p (suc links) device (before, walk, (link, member, lead)) =
     or_right (is_reached p links device) _
@@ -75,7 +76,7 @@ later_rounds p links (suc more) device h =
     let sum : suc (more + links) ≡ suc more + links = omega arith in
     subst P sum (stays p (more + links) device (later_rounds p links more device h))
 
-pub walk_reached : (p : Plant) (links rounds device : ℕ) → IsWalk p links device → links ≤ rounds → is_reached p rounds device ≡ true
+pub walk_reached : (p : Plant) (links rounds device : ℕ) → IsClockWalk p links device → links ≤ rounds → is_reached p rounds device ≡ true
 walk_reached p links rounds device walk within =
     let P : ℕ → Type 0 = λ n. is_reached p n device ≡ true in
     let sum : rounds - links + links ≡ rounds = omega arith in
@@ -86,13 +87,13 @@ found_distance : (p : Plant) (device hops : ℕ) → hops_within p device ≡ So
 found_distance p device hops found =
     let (is, _, _, none) = found_passes (λ rounds. is_reached p rounds device) 0 (p.window + 1) hops found in
     let (links, within, walk) = reached_walk p hops device is in
-    let least : (fewer : ℕ) → IsWalk p fewer device → hops ≤ fewer =
+    let least : (fewer : ℕ) → IsClockWalk p fewer device → hops ≤ fewer =
     λ fewer other. elim (cases_lt fewer hops) [
       | inl less ↦ absurd (false≢true (sym (none fewer (omega arith) less) ∙ walk_in p fewer device other))
       | inr above ↦ above
     ] in
     let same : links ≡ hops = omega (arith, within, least links walk) in
-    let P : ℕ → Type 0 = λ n. IsWalk p n device in
+    let P : ℕ → Type 0 = λ n. IsClockWalk p n device in
     record { walk = subst P same walk; shortest = least }
 
 -- a budget is at least its links

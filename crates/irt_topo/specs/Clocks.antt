@@ -1,38 +1,12 @@
--- How far a device is from device 0, in links.
-use Rattle.std.specs.Prelude.{◌≡◌, ℕ, zero, suc, ◌+◌, ◌≤◌, ◌==◌, nat_le, Bool, false, ◌&&◌, ◌||◌, ◌⊎◌, if◌then◌else◌, Option, Some, None, Contains}
+-- How far a device is from device 0, as tests.
+use Rattle.std.specs.Prelude.{ℕ, zero, suc, ◌+◌, ◌==◌, nat_le, Bool, false, ◌&&◌, ◌||◌, if◌then◌else◌, Option, Some, None}
 use Rattle.std.specs.List.{list_any}
 use Rattle.std.specs.Option.{option_map_or}
-use Rattle.irt_base.specs.Cycle.{budget_time}
 use Rattle.irt_base.specs.declared.plants.Link.{Link}
-use Rattle.irt_base.specs.declared.plants.SyncPlan.{SyncPlan}
 use Rattle.irt_base.specs.declared.plants.Plant.{Plant}
+use Rattle.plant_rules.specs.Clocks.{clock_budget}
 
--- the link leads from one device to the other, either way
-abbrev pub Leads : ℕ → ℕ → Link → Type 0
-Leads from to link = ((link.a.0 ≡ from) × (link.b.0 ≡ to)) ⊎ ((link.b.0 ≡ from) × (link.a.0 ≡ to))
-
--- there is a walk of so many links from device 0 to the device
-abbrev pub IsWalk : Plant → ℕ → ℕ → Type 0
-IsWalk p zero device = device ≡ 0
-IsWalk p (suc links) device =
-    (before : ℕ) × IsWalk p links before × ((link : Link) × Contains p.links link × Leads before device link)
-
--- the links of a shortest walk from device 0
-pub record IsDistance (p : Plant) (device links : ℕ) : Type 0 where
-  pub walk : IsWalk p links device
-  pub shortest : (fewer : ℕ) → IsWalk p fewer device → links ≤ fewer
-
--- by how much a clock that follows over so many links may be off
-abbrev pub clock_budget : SyncPlan → ℕ → ℕ
-clock_budget sync hops = budget_time hops sync.stamp sync.drift sync.send sync.timeout
-
--- a clock follows device 0 within the window
-pub record HasClock (p : Plant) (device : ℕ) : Type 0 where
-  pub hops : ℕ
-  pub distance : IsDistance p device hops
-  pub budget : clock_budget p.sync hops ≤ p.window
-
--- As tests. From device 0 over at most so many links, round by round.
+-- From device 0 over at most so many links, round by round.
 abbrev pub joins : (ℕ → Bool) → ℕ → Link → Bool
 joins reached device link = (reached link.a.0 && link.b.0 == device) || (reached link.b.0 && link.a.0 == device)
 

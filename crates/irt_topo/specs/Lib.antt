@@ -1,5 +1,4 @@
 pub mod Clocks
-pub mod Meets
 pub mod Reading
 pub mod Rules
 pub mod Stated

@@ -7,7 +7,7 @@ use Rattle.plant_shape.specs.declared.fault.ShapeFault.TheVariants as shapes
 use Rattle.plant_shape.specs.declared.raw.RawPlant.{RawPlant}
 use Rattle.irt_topo.specs.Stated.{stated_plant, in_two_bytes}
 use Rattle.irt_topo.specs.Rules.{first_failure, number_of}
-use Rattle.irt_topo.specs.Meets.{MeetsRules}
+use Rattle.plant_rules.specs.Meets.{MeetsRules}
 use Rattle.irt_topo.specs.declared.rules.Rule.{Rule}
 use Rattle.irt_topo.specs.declared.fault.PlantFault.{PlantFault}
 use Rattle.irt_topo.specs.declared.fault.PlantFault.TheVariants as faults
@@ -37,9 +37,9 @@ abbrev pub plant_of : List ℕ → Result Plant PlantFault
 plant_of bytes = judged_shape (shape_of bytes)
 
 -- an answer is the one that is stated, or want of memory
-abbrev pub Answers : Result Plant PlantFault → Result Plant PlantFault → Type 0
-Answers (Err faults.NoMemory) stated = ⊤
-Answers given stated = stated ≡ given
+abbrev pub IsPlantAnswer : Result Plant PlantFault → Result Plant PlantFault → Type 0
+IsPlantAnswer (Err faults.NoMemory) stated = ⊤
+IsPlantAnswer given stated = stated ≡ given
 
 -- the file is a TOML document with the shape of a plant, which states this plant, and that meets the rules
 pub record IsPlantDocument (bytes : List ℕ) (p : Plant) : Type 0 where

@@ -1,13 +1,11 @@
 -- The rules P2..P18 as tests of a plant at an index, and the first rule that fails. P1 is the shape of
 -- the file. A rule of the plant as a whole has the index 0.
-use Rattle.std.specs.Prelude.{ℕ, ◌+◌, ◌/◌, ◌%◌, ◌==◌, nat_le, nat_lt, Bool, true, false, not, ◌&&◌, ◌||◌, if◌then◌else◌, List, [], ◌∷◌, length, take, slice_get, Option, Some, None, bytes_eq, sum_by}
+use Rattle.std.specs.Prelude.{ℕ, ◌+◌, ◌%◌, ◌==◌, nat_le, nat_lt, Bool, true, not, ◌&&◌, ◌||◌, List, [], ◌∷◌, length, take, slice_get, Option, Some, None}
 use Rattle.std.specs.List.{list_any, list_all}
 use Rattle.std.specs.Option.{option_map_or}
 use Rattle.irt_base.specs.Cycle.{cycle_time, guard_time}
-use Rattle.irt_base.specs.Wiring.{tx_delay, rx_delay}
 use Rattle.irt_base.specs.declared.limits.TheConstants.{MIN_DEVICES, MAX_DEVICES, MAX_PORTS, MAX_DEMANDS, MAX_TRAFFIC, MAX_NAME, MAX_WINDOW, MAX_DELAY, MAX_FACTOR, MIN_DATA, MAX_DATA, DATA_STEP, MIN_FRAME, MAX_FRAME, MAX_WORDS, MIN_PARCEL, MAX_PARCEL, MAX_EVERY, MAX_COUNT, MAX_SEND, MAX_TIMEOUT, MAX_DRIFT, MAX_STAMP, MIN_LOSS, MAX_LOSS}
 use Rattle.irt_base.specs.declared.numbers.DevId.{DevId}
-use Rattle.irt_base.specs.declared.numbers.PortNo.{PortNo}
 use Rattle.irt_base.specs.declared.blocks.PortDelay.{PortDelay}
 use Rattle.irt_base.specs.declared.plants.Clocks.{Clocks}
 use Rattle.irt_base.specs.declared.plants.Clocks.TheVariants.{World, Ptcp}
@@ -21,10 +19,7 @@ use Rattle.irt_base.specs.declared.plants.Plant.{Plant}
 use Rattle.irt_topo.specs.Clocks.{has_clock, least_from}
 use Rattle.irt_topo.specs.declared.rules.Rule.{Rule}
 use Rattle.irt_topo.specs.declared.rules.Rule.TheVariants as rules
-
--- from low to high, both included
-abbrev pub is_within : ℕ → ℕ → ℕ → Bool
-is_within low high n = nat_le low n && nat_le n high
+use Rattle.plant_rules.specs.Words.{is_within, same_name, has_port, share_port, hop_there, hop_back, same_frame, same_app_device, consumes, provides, words_where}
 
 -- the item at an index passes a test, which sees the items before it
 abbrev pub passes_at : {A : Type 0} → (List A → A → Bool) → List A → ℕ → Bool
@@ -44,55 +39,13 @@ is_name_byte b = is_within 97 122 b || is_within 48 57 b || b == 45
 abbrev pub is_name : List ℕ → Bool
 is_name name = is_within 1 MAX_NAME (length name) && list_all is_name_byte name
 
-abbrev pub same_name : Device → Device → Bool
-same_name d e = bytes_eq d.name e.name
-
 abbrev pub is_port_delay : PortDelay → Bool
 is_port_delay p = nat_le p.tx MAX_DELAY && nat_le p.rx MAX_DELAY
-
-abbrev pub has_port : Plant → ℕ → ℕ → Bool
-has_port p device port = option_map_or (λ (d : Device). is_within 1 (length d.ports) port) (slice_get p.devices device) false
-
--- one of two ports is the other
-abbrev pub same_port : DevId → PortNo → DevId → PortNo → Bool
-same_port d p e q = d.0 == e.0 && p.0 == q.0
-
--- the links have a port in common
-abbrev pub share_port : Link → Link → Bool
-share_port l m =
-    same_port l.a l.a_port m.a m.a_port || same_port l.a l.a_port m.b m.b_port
-    || same_port l.b l.b_port m.a m.a_port || same_port l.b l.b_port m.b m.b_port
-
--- how long a frame takes over a link from its first end to its second, and back
-abbrev pub hop_there : Plant → Link → ℕ
-hop_there p l = tx_delay p l.a.0 l.a_port.0 + l.delay + rx_delay p l.b.0 l.b_port.0
-
-abbrev pub hop_back : Plant → Link → ℕ
-hop_back p l = tx_delay p l.b.0 l.b_port.0 + l.delay + rx_delay p l.a.0 l.a_port.0
-
-abbrev pub same_frame : Demand → Demand → Bool
-same_frame d e = d.frame.0 == e.frame.0
 
 -- no two are the same
 abbrev pub all_differ : List DevId → Bool
 all_differ [] = true
 all_differ (d ∷ ds) = not (list_any (λ (e : DevId). e.0 == d.0) ds) && all_differ ds
-
-abbrev pub same_app_device : App → App → Bool
-same_app_device a b = a.device.0 == b.device.0
-
--- the words of a demand that a device consumes, and provides
-abbrev pub consumes : ℕ → Demand → Bool
-consumes device d = list_any (λ (c : DevId). c.0 == device) d.consumers
-
-abbrev pub provides : ℕ → Demand → Bool
-provides device d = d.provider.0 == device
-
-abbrev pub words_of : Demand → ℕ
-words_of d = d.length / 8
-
-abbrev pub words_where : (Demand → Bool) → List Demand → ℕ
-words_where test demands = sum_by (λ d. if test d then words_of d else 0) demands
 
 abbrev pub is_loss : ℕ → Bool
 is_loss loss = loss == 0 || is_within MIN_LOSS MAX_LOSS loss

@@ -1,4 +1,4 @@
-//! Plants: reading and printing their files, the rules that they meet, and the wiring between devices.
+//! Plants from their files: the rules P2..P18 as tests in order, and what a file states.
 #![tactic(auto)]
 
 pub mod fault;
@@ -7,4 +7,3 @@ pub mod rules;
 pub mod stated;
 #[cfg(test)]
 mod tests;
-pub mod wiring;

@@ -1,8 +1,8 @@
 //! Reading plant files.
 
 ghost use Rattle.std.specs.Prelude.{◌≡◌, IfOk};
-ghost use Rattle.irt_topo.specs.Meets.{MeetsRules};
-ghost use Rattle.irt_topo.specs.Reading.{Answers, IsPlantDocument, plant_of, shape_fault, rule_fault};
+ghost use Rattle.plant_rules.specs.Meets.{MeetsRules};
+ghost use Rattle.irt_topo.specs.Reading.{IsPlantAnswer, IsPlantDocument, plant_of, shape_fault, rule_fault};
 
 use crate::fault::PlantFault;
 use crate::rules::{Rule, first_failure};
@@ -15,17 +15,17 @@ use std::alloc::Global;
 /// Reads a plant file of any length. `NotToml` comes exactly where the bytes are no TOML document, and
 /// `Rule` is the first rule that fails and the least index at which it does.
 pub fn read_plant(alloc: Global, bytes: &[u8]) -> Result<Plant, PlantFault>
-    ensures answer { Answers result (plant_of bytes.now) }
+    ensures answer { IsPlantAnswer result (plant_of bytes.now) }
     ensures document { IfOk result (IsPlantDocument bytes.now) }
     ensures rules { IfOk result MeetsRules }
     // A file that is a plant's is read, memory aside, as that plant and no other.
-    ensures only { (p : Plant) → IsPlantDocument bytes.now p → Answers result (Ok p) }
+    ensures only { (p : Plant) → IsPlantDocument bytes.now p → IsPlantAnswer result (Ok p) }
 {
     judged_plant(alloc, bytes)
 }
 
 fn judged_plant(alloc: Global, bytes: &[u8]) -> Result<Plant, PlantFault>
-    ensures { Answers result (plant_of bytes.now) }
+    ensures { IsPlantAnswer result (plant_of bytes.now) }
 {
     let raw = match read_shape(alloc, bytes) {
         Ok(raw) => raw,

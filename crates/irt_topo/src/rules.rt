@@ -1,7 +1,8 @@
 //! The rules P2..P18, and the first that a plant fails.
 
 ghost use Rattle.std.specs.Prelude.{◌≡◌, ◌+◌};
-ghost use Rattle.irt_topo.specs.Rules.{is_within, fits_cycle, first_failing, first_failure};
+ghost use Rattle.plant_rules.specs.Words.{is_within};
+ghost use Rattle.irt_topo.specs.Rules.{fits_cycle, first_failing, first_failure};
 
 mod clocks;
 mod demands;

@@ -5,7 +5,7 @@ use Rattle.std.proofs.lemmas.Option.{slice_get-map, slice_get_cases, slice_get_r
 use Rattle.irt_base.specs.declared.blocks.Bundle.{Bundle}
 use Rattle.irt_base.specs.declared.blocks.Entry.{Entry}
 use Rattle.irt_base.specs.declared.plants.Plant.{Plant}
-use Rattle.irt_timing.specs.Tree.{AreTrees, demand_of}
+use Rattle.plan_rules.specs.Tree.{AreTrees, demand_of}
 use Rattle.plan_rules.specs.Frames.{IsTreeAt}
 use Rattle.plan_rules.specs.Plan.{setup_of}
 use Rattle.plan_rules.specs.Ways.{IsWay, AreWays}

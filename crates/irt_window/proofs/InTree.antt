@@ -7,9 +7,9 @@ use Rattle.std.specs.Option.{is_some}
 use Rattle.irt_base.specs.declared.blocks.Entry.{Entry}
 use Rattle.irt_base.specs.declared.plants.Demand.{Demand}
 use Rattle.irt_base.specs.declared.plants.Plant.{Plant}
-use Rattle.irt_topo.specs.Meets.{MeetsRules, IsDemand, IsConsumer}
-use Rattle.irt_timing.specs.Way.{Setup, entry_at, IsParent}
-use Rattle.irt_timing.specs.Tree.{demand_of, Consumes, IsReached, here, through, IsReceiver, IsTreeEntry, IsInTree}
+use Rattle.plant_rules.specs.Meets.{MeetsRules, IsDemand, IsConsumer}
+use Rattle.plan_rules.specs.Way.{Setup, entry_at, IsParent}
+use Rattle.plan_rules.specs.Tree.{demand_of, Consumes, IsReached, here, through, IsReceiver, IsTreeEntry, IsInTree}
 use Rattle.plan_rules.specs.declared.way.Way.{Way}
 use Rattle.irt_window.specs.Marks.{way_in, AreMarks, AreStuck}
 use Rattle.irt_window.specs.Plans.{IsNet, setup_in, Stands}

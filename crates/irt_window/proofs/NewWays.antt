@@ -13,10 +13,10 @@ use Rattle.irt_base.specs.declared.numbers.PortNo.{PortNo}
 use Rattle.irt_base.specs.declared.plants.Demand.{Demand}
 use Rattle.irt_base.specs.declared.plants.Device.{Device}
 use Rattle.irt_base.specs.declared.plants.Plant.{Plant}
-use Rattle.irt_topo.specs.Meets.{MeetsRules, IsDevice}
-use Rattle.irt_timing.specs.Way.{entry_at, IsParent}
-use Rattle.irt_timing.specs.Tree.{demand_of, IsReached, here, through, AreTrees}
-use Rattle.irt_timing.specs.SendWindow.{SendWindow, HasWindow, at_anchor, behind}
+use Rattle.plant_rules.specs.Meets.{MeetsRules, IsDevice}
+use Rattle.plan_rules.specs.Way.{entry_at, IsParent}
+use Rattle.plan_rules.specs.Tree.{demand_of, IsReached, here, through, AreTrees}
+use Rattle.plan_rules.specs.SendWindow.{SendWindow, HasWindow, at_anchor, behind}
 use Rattle.plan_rules.specs.Ways.{window_of}
 use Rattle.plan_rules.specs.declared.way.Way.{Way}
 use Rattle.irt_window.specs.Behind.{IsBehind}

@@ -5,7 +5,7 @@ use Rattle.std.proofs.lemmas.List.{get_or-set_other, get_or-set_same}
 use Rattle.std.proofs.lemmas.List.{length-set}
 use Rattle.std.proofs.lemmas.Option.{none-some, same_Some, slice_get_within, slice_get_read, get_or_from_slice_get}
 use Rattle.std.proofs.lemmas.List.Elements.{All-from_recursion}
-use Rattle.irt_topo.specs.Meets.{MeetsRules, IsDemand}
+use Rattle.plant_rules.specs.Meets.{MeetsRules, IsDemand}
 use Rattle.irt_base.specs.declared.plants.Plant.{Plant}
 use Rattle.irt_base.specs.declared.plants.Demand.{Demand}
 

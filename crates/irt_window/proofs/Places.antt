@@ -8,7 +8,7 @@ use Rattle.irt_base.specs.declared.blocks.Entry.{Entry}
 use Rattle.irt_base.specs.declared.numbers.DevId.{DevId}
 use Rattle.irt_base.specs.declared.numbers.PortNo.{PortNo}
 use Rattle.irt_base.specs.declared.plants.Plant.{Plant}
-use Rattle.irt_timing.specs.Way.{entry_at, IsParent}
+use Rattle.plan_rules.specs.Way.{entry_at, IsParent}
 use Rattle.link_index.specs.Index.{peer_in}
 use Rattle.plan_rules.specs.Plan.{setup_of, IsPlan}
 use Rattle.irt_window.specs.Plans.{IsNet, setup_in, Stands}

@@ -8,8 +8,8 @@ use Rattle.irt_base.specs.declared.blocks.Bundle.{Bundle}
 use Rattle.irt_base.specs.declared.blocks.Entry.{Entry}
 use Rattle.irt_base.specs.declared.plants.Plant.{Plant}
 use Rattle.plan_rules.specs.Plan.{IsPlan, setup_of}
-use Rattle.irt_timing.specs.Way.{Setup, entry_at, Leaves, IsParent}
-use Rattle.irt_timing.specs.SendWindow.{HasWindow}
+use Rattle.plan_rules.specs.Way.{Setup, entry_at, Leaves, IsParent}
+use Rattle.plan_rules.specs.SendWindow.{HasWindow}
 use Rattle.plan_rules.specs.Ways.{AreWays, window_of}
 use Rattle.plan_rules.specs.declared.way.Way.{Way}
 use Rattle.irt_window.specs.Tables.{AreBeside, AreAscending, AreOrdered}

@@ -4,7 +4,7 @@ use Rattle.irt_base.specs.Wiring.{hop_of}
 use Rattle.irt_base.specs.declared.limits.TheConstants.{MAX_DELAY}
 use Rattle.irt_base.specs.declared.blocks.Entry.{Entry}
 use Rattle.irt_base.specs.declared.plants.Device.{Device}
-use Rattle.irt_timing.specs.Way.{IsAnchor}
+use Rattle.plan_rules.specs.Way.{IsAnchor}
 use Rattle.plan_rules.specs.declared.way.Way.{Way}
 use Rattle.irt_window.specs.Plans.{setup_in}
 use Rattle.irt_window.specs.declared.net.Net.{Net}

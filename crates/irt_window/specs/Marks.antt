@@ -4,9 +4,9 @@ use Rattle.irt_base.specs.declared.limits.TheConstants.{MAX_DELAY, MAX_DEVICES, 
 use Rattle.irt_base.specs.declared.blocks.Bundle.{Bundle}
 use Rattle.irt_base.specs.declared.blocks.Entry.{Entry}
 use Rattle.irt_base.specs.declared.plants.Demand.{Demand}
-use Rattle.irt_timing.specs.Way.{Setup, IsParent}
-use Rattle.irt_timing.specs.Tree.{demand_of, IsReached, AreTrees}
-use Rattle.irt_timing.specs.SendWindow.{HasWindow}
+use Rattle.plan_rules.specs.Way.{Setup, IsParent}
+use Rattle.plan_rules.specs.Tree.{demand_of, IsReached, AreTrees}
+use Rattle.plan_rules.specs.SendWindow.{HasWindow}
 use Rattle.plan_rules.specs.Ways.{window_of, IsComing}
 use Rattle.plan_rules.specs.declared.way.Way.{Way}
 use Rattle.irt_window.specs.Plans.{setup_in, Stands}

@@ -1,7 +1,7 @@
 -- Who sends a frame to a device, and who receives it, as answers.
 use Rattle.std.specs.Prelude.{◌≡◌, ℕ, ◌≤◌, Option, Some, None}
 use Rattle.irt_base.specs.declared.blocks.Entry.{Entry}
-use Rattle.irt_timing.specs.Way.{Setup, entry_at, Leaves, IsParent}
+use Rattle.plan_rules.specs.Way.{Setup, entry_at, Leaves, IsParent}
 use Rattle.irt_window.specs.Plans.{setup_in, Stands}
 use Rattle.irt_window.specs.declared.net.Net.{Net}
 use Rattle.irt_window.specs.declared.links.Parent.{Parent}

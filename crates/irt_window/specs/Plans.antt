@@ -5,7 +5,7 @@ use Rattle.irt_base.specs.Wiring.{peer_of}
 use Rattle.irt_base.specs.declared.blocks.Bundle.{Bundle}
 use Rattle.irt_base.specs.declared.blocks.Entry.{Entry}
 use Rattle.irt_base.specs.declared.plants.Plant.{Plant}
-use Rattle.irt_timing.specs.Way.{Setup, entry_at}
+use Rattle.plan_rules.specs.Way.{Setup, entry_at}
 use Rattle.link_index.specs.Index.{IsIndexOf}
 use Rattle.plan_rules.specs.Plan.{setup_of, IsPlan}
 use Rattle.irt_window.specs.Demands.{AreNumbers}

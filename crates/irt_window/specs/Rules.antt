@@ -2,8 +2,8 @@
 use Rattle.std.specs.Prelude.{◌≡◌, ◌≢◌, ◌↔◌, ℕ, ◌≤◌, ◌<◌, ◌⊎◌, Option, Some, None, IsBitSet}
 use Rattle.irt_base.specs.declared.blocks.Entry.{Entry}
 use Rattle.irt_base.specs.declared.plants.Demand.{Demand}
-use Rattle.irt_timing.specs.Way.{Setup, Leaves, IsParent}
-use Rattle.irt_timing.specs.Tree.{demand_of, Consumes, IsReceiver, IsTreeEntry, IsInTree}
+use Rattle.plan_rules.specs.Way.{Setup, Leaves, IsParent}
+use Rattle.plan_rules.specs.Tree.{demand_of, Consumes, IsReceiver, IsTreeEntry, IsInTree}
 
 -- a demand wants the device to have an entry of the frame
 pub record IsWanted (setup : Setup) (device frame : ℕ) : Type 0 where

@@ -2,7 +2,7 @@
 use Rattle.std.specs.Prelude.{◌≡◌, ◌≢◌, ℕ, ◌<◌, List, [], Option, Some, None, length, map, slice_index_or}
 use Rattle.irt_base.specs.declared.blocks.Bundle.{Bundle}
 use Rattle.irt_base.specs.declared.plants.Plant.{Plant}
-use Rattle.irt_timing.specs.Tree.{AreTrees}
+use Rattle.plan_rules.specs.Tree.{AreTrees}
 use Rattle.plan_rules.specs.Frames.{IsTreeAt}
 use Rattle.plan_rules.specs.Places.{IsLeastBreak}
 use Rattle.plan_rules.specs.Plan.{setup_of}

@@ -3,8 +3,8 @@ use Rattle.std.specs.Prelude.{◌≡◌, ℕ, Option, Some, None, pos}
 use Rattle.irt_base.specs.declared.blocks.Entry.{Entry}
 use Rattle.irt_base.specs.declared.numbers.DevId.{DevId}
 use Rattle.irt_base.specs.declared.numbers.PortNo.{PortNo}
-use Rattle.irt_timing.specs.Way.{Setup, entry_at, Leaves, IsParent}
-use Rattle.irt_timing.specs.SendWindow.{SendWindow, HasWindow}
+use Rattle.plan_rules.specs.Way.{Setup, entry_at, Leaves, IsParent}
+use Rattle.plan_rules.specs.SendWindow.{SendWindow, HasWindow}
 use Rattle.plan_rules.specs.Ways.{IsWay}
 use Rattle.plan_rules.specs.declared.way.Way.{Way}
 use Rattle.irt_window.specs.declared.windows.Window.{Window}
@@ -15,9 +15,9 @@ pub record IsEntryWay (setup : Setup) (device frame : ℕ) (e : Entry) (way : Wa
   pub named : e.frame.0 ≡ frame
   pub is_way : IsWay setup device e way
 
-abbrev pub IsFound : Setup → ℕ → ℕ → Option (Entry × Way) → Type 0
-IsFound setup device frame None = entry_at setup device frame ≡ None
-IsFound setup device frame (Some found) = IsEntryWay setup device frame found.0 found.1
+abbrev pub IsEntryFound : Setup → ℕ → ℕ → Option (Entry × Way) → Type 0
+IsEntryFound setup device frame None = entry_at setup device frame ≡ None
+IsEntryFound setup device frame (Some found) = IsEntryWay setup device frame found.0 found.1
 
 -- the window of an entry that leaves by a port
 pub record IsWindow (setup : Setup) (device frame : ℕ) (w : Window) : Type 0 where

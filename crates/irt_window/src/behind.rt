@@ -2,7 +2,7 @@
 
 ghost use Rattle.std.specs.Prelude.{◌≡◌, ◌↔◌, ◌+◌, ◌*◌, ◌<◌, ◌≤◌, ◌^◌, Some, IsSome, IsTrue, length};
 ghost use Rattle.irt_base.specs.Wiring.{hop_of, peer_of};
-ghost use Rattle.irt_timing.specs.Way.{IsAbsolute, IsAnchor};
+ghost use Rattle.plan_rules.specs.Way.{IsAbsolute, IsAnchor};
 ghost use Rattle.irt_window.specs.Plans.{IsNet, setup_in};
 ghost use Rattle.irt_window.specs.Parents.{HasParent};
 ghost use Rattle.irt_window.specs.Behind.{IsBehind, HasBridge};

@@ -1,8 +1,8 @@
 //! Demands by FrameID.
 
 ghost use Rattle.std.specs.Prelude.{◌≡◌, ◌↔◌, IfOk, IsTrue};
-ghost use Rattle.irt_topo.specs.Meets.{MeetsRules};
-ghost use Rattle.irt_timing.specs.Tree.{Consumes};
+ghost use Rattle.plant_rules.specs.Meets.{MeetsRules};
+ghost use Rattle.plan_rules.specs.Tree.{Consumes};
 ghost use Rattle.irt_window.specs.Demands.{AreNumbers};
 
 use irt_base::limits::MAX_FRAME;

@@ -1,8 +1,8 @@
 //! Who sends a frame to a device, and who receives it.
 
 ghost use Rattle.std.specs.Prelude.{◌≡◌, ◌≤◌, ◌↔◌, ℕ, IsTrue};
-ghost use Rattle.irt_timing.specs.Way.{Leaves};
-ghost use Rattle.irt_timing.specs.Tree.{IsReceiver};
+ghost use Rattle.plan_rules.specs.Way.{Leaves};
+ghost use Rattle.plan_rules.specs.Tree.{IsReceiver};
 ghost use Rattle.irt_window.specs.Plans.{IsNet, setup_in};
 ghost use Rattle.irt_window.specs.Parents.{IsSenderAnswer, IsParentAnswer, Receives};
 

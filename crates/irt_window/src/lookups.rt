@@ -5,7 +5,7 @@ ghost use Rattle.irt_base.specs.declared.blocks.Bundle.{Bundle};
 ghost use Rattle.irt_base.specs.declared.plants.Plant.{Plant};
 ghost use Rattle.plan_rules.specs.Plan.{setup_of};
 ghost use Rattle.irt_window.specs.Trees.{AreWindows};
-ghost use Rattle.irt_window.specs.Windows.{IsFound, IsWindowAnswer, IsSourceAnswer};
+ghost use Rattle.irt_window.specs.Windows.{IsEntryFound, IsWindowAnswer, IsSourceAnswer};
 
 use crate::ports::leaves;
 use crate::search::entry_index;
@@ -61,7 +61,7 @@ impl Windows {
     /// The entry of a frame at a device, and its way.
     fn find(&self, device: DevId, frame: FrameId) -> Option<(Entry, Way)>
         ensures found { (plant : Plant) (bundles : List Bundle) → AreWindows plant bundles self.now →
-            IsFound (setup_of plant bundles) device.0 frame.0 result }
+            IsEntryFound (setup_of plant bundles) device.0 frame.0 result }
         ensures ordered { IfSome result (λ x. x.1.lo ≤ x.1.hi) }
         ensures small { IfSome result (λ x. x.1.hi < 2 ^ 39) }
     {

@@ -3,7 +3,7 @@
 ghost use Rattle.std.specs.Prelude.{◌≡◌, ◌≢◌, ℕ, ◌≤◌, ◌<◌, None, Some, length};
 ghost use Rattle.irt_base.specs.declared.blocks.Entry.{Entry};
 ghost use Rattle.irt_base.specs.declared.plants.Demand.{Demand};
-ghost use Rattle.irt_timing.specs.Tree.{demand_of};
+ghost use Rattle.plan_rules.specs.Tree.{demand_of};
 ghost use Rattle.irt_window.specs.Plans.{IsNet, Stands};
 ghost use Rattle.irt_window.specs.Marks.{AreMarks, way_in, IsNewWay, IsStep, IsStuckAt, IsDeviceStuck, AreStuck};
 

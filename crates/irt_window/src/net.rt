@@ -3,7 +3,7 @@
 ghost use Rattle.std.specs.Prelude.{◌≡◌};
 ghost use Rattle.std.specs.Option.{option_copied};
 ghost use Rattle.irt_base.specs.declared.blocks.Entry.{Entry};
-ghost use Rattle.irt_timing.specs.Tree.{demand_of};
+ghost use Rattle.plan_rules.specs.Tree.{demand_of};
 ghost use Rattle.irt_window.specs.Plans.{IsNet, IsEntryAt, Stands};
 
 use crate::search::entry_index;

@@ -1,7 +1,7 @@
 //! The ports by which an entry's frame leaves, as bits of `tx`.
 
 ghost use Rattle.std.specs.Prelude.{◌↔◌, ℕ, IsTrue, IsBitSet};
-ghost use Rattle.irt_timing.specs.Way.{Leaves};
+ghost use Rattle.plan_rules.specs.Way.{Leaves};
 
 use irt_base::blocks::Entry;
 use irt_base::limits::MAX_PORTS;

@@ -2,7 +2,7 @@
 
 ghost use Rattle.std.specs.Prelude.{◌≡◌, ◌↔◌, ◌⊎◌, Some, IsTrue, IsBitSet};
 ghost use Rattle.irt_base.specs.declared.blocks.Entry.{Entry};
-ghost use Rattle.irt_timing.specs.Tree.{demand_of, Consumes, IsReached, IsInTree};
+ghost use Rattle.plan_rules.specs.Tree.{demand_of, Consumes, IsReached, IsInTree};
 ghost use Rattle.plan_rules.specs.Places.{IsScan};
 ghost use Rattle.plan_rules.specs.Frames.{IsTreeAt};
 ghost use Rattle.irt_window.specs.Plans.{IsNet, setup_in, Stands};

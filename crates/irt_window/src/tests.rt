@@ -1,7 +1,7 @@
 //! A line and a ring: their windows, and where their entries form no trees.
 
 ghost use Rattle.std.specs.Prelude.{IfOk, IsTrue};
-ghost use Rattle.irt_topo.specs.Meets.{MeetsRules};
+ghost use Rattle.plant_rules.specs.Meets.{MeetsRules};
 ghost use Rattle.plan_rules.specs.Plan.{IsPlan};
 
 use crate::trees::{trees, windows};

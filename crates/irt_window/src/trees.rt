@@ -3,7 +3,7 @@
 ghost use Rattle.std.specs.Prelude.{◌≡◌, ◌≢◌, ℕ, ◌<◌, Some, None, Err, IfOk, length, map, slice_index_or};
 ghost use Rattle.plan_rules.specs.Plan.{IsPlan, setup_of};
 ghost use Rattle.irt_window.specs.declared.windows.WindowFault.TheVariants.{NotATree};
-ghost use Rattle.irt_timing.specs.Tree.{AreTrees};
+ghost use Rattle.plan_rules.specs.Tree.{AreTrees};
 ghost use Rattle.irt_window.specs.Plans.{IsNet, setup_in};
 ghost use Rattle.irt_window.specs.Marks.{AreMarks, AreStuck};
 ghost use Rattle.irt_window.specs.Trees.{IsTreeAnswer, AreWindows, AreFound, AreRowsOf};

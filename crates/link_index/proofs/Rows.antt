@@ -12,8 +12,8 @@ use Rattle.irt_base.specs.declared.numbers.PortNo.{PortNo}
 use Rattle.irt_base.specs.declared.plants.Device.{Device}
 use Rattle.irt_base.specs.declared.plants.Link.{Link}
 use Rattle.irt_base.specs.declared.plants.Plant.{Plant}
-use Rattle.irt_topo.specs.Rules.{has_port, is_within}
-use Rattle.irt_topo.specs.Meets.{IsDevice, IsLink, MeetsRules}
+use Rattle.plant_rules.specs.Words.{has_port, is_within}
+use Rattle.plant_rules.specs.Meets.{IsDevice, IsLink, MeetsRules}
 use Rattle.link_index.specs.declared.index.TheConstants.{ROW}
 use Rattle.link_index.specs.declared.index.Wire.{Wire}
 use Rattle.link_index.specs.Index.{wire_in, wire_of, wire_over, IsIndexOf, HasSmallHop, AreSmallRows}

@@ -1,7 +1,7 @@
 //! A plant's links by device and port.
 
 ghost use Rattle.std.specs.Prelude.{◌≡◌, ◌≤◌, ◌*◌, ◌<◌, ℕ, IfOk, IfSome, Some, None, length, slice_index_or};
-ghost use Rattle.irt_topo.specs.Meets.{MeetsRules};
+ghost use Rattle.plant_rules.specs.Meets.{MeetsRules};
 ghost use Rattle.link_index.specs.Index.{IsIndexOf, peer_in, hop_in, wire_in, wire_of, HasSmallHop};
 
 use irt_base::limits::{MAX_DELAY, MAX_PORTS};
@@ -9,7 +9,7 @@ use irt_base::list::Items;
 use irt_base::memory::NoMemory;
 use irt_base::numbers::{DevId, PortNo};
 use irt_base::plants::Plant;
-use irt_topo::wiring;
+use plant_rules::wiring;
 use std::alloc::Global;
 use std::marker::Model;
 

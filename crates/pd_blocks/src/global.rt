@@ -5,7 +5,7 @@ ghost use Rattle.std.specs.Prelude.{◌≡◌, ◌≤◌, ◌<◌, ◌+◌, ◌-
 ghost use Rattle.std.specs.List.{flat_map};
 ghost use Rattle.irt_base.specs.declared.blocks.GlobalBlock.{GlobalBlock};
 ghost use Rattle.irt_base.specs.Valid.{IsGlobalBlock};
-ghost use Rattle.irt_block.specs.Reading.{Answers, Gives, repeat_at};
+ghost use Rattle.irt_block.specs.Reading.{GivesSurely, Gives, repeat_at};
 ghost use Rattle.irt_block.specs.Header.{whole_of};
 ghost use Rattle.pd_blocks.specs.Global.{port_at, port_bytes, global_fields_at, global_in, global_bytes};
 
@@ -29,7 +29,7 @@ const GLOBAL: BlockId = BlockId {
 fn port(extent: Extent, rest: &[u8]) -> Result<(PortDelay, &[u8]), BlockFault>
     requires inside { length rest.now ≤ extent.end }
     requires fits { extent.end < 2 ^ 32 }
-    ensures gives { Answers (λ x. (x.0, x.1.now)) result (port_at extent rest.now) }
+    ensures gives { GivesSurely (λ x. (x.0, x.1.now)) result (port_at extent rest.now) }
     ensures shorter { IfOk result (λ x. length x.1.now ≤ length rest.now) }
 {
     let (tx, rest) = u32_within(extent, rest, 0, MAX_DELAY)?;

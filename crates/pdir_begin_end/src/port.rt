@@ -1,7 +1,7 @@
 //! The periods of one port.
 
 ghost use Rattle.std.specs.Prelude.{◌≡◌, ◌≤◌, ◌<◌, ◌^◌, length, IfOk};
-ghost use Rattle.irt_block.specs.Reading.{Answers, Gives, ruled_at, repeat_at};
+ghost use Rattle.irt_block.specs.Reading.{GivesSurely, Gives, ruled_at, repeat_at};
 ghost use Rattle.pdir_begin_end.specs.Periods.{period_at, assignment_at, phase_at, port_at, is_below};
 
 use irt_base::blocks::{Assignment, Period, PhasePair, PortPeriods};
@@ -15,7 +15,7 @@ use std::alloc::Global;
 fn period(extent: Extent, rest: &[u8]) -> Result<(Period, &[u8]), BlockFault>
     requires inside { length rest.now ≤ extent.end }
     requires fits { extent.end < 2 ^ 32 }
-    ensures gives { Answers (λ x. (x.0, x.1.now)) result (period_at extent rest.now) }
+    ensures gives { GivesSurely (λ x. (x.0, x.1.now)) result (period_at extent rest.now) }
     ensures shorter { IfOk result (λ x. length x.1.now ≤ length rest.now) }
 {
     let (red, rest) = u32_at(extent, rest)?;
@@ -28,7 +28,7 @@ fn period(extent: Extent, rest: &[u8]) -> Result<(Period, &[u8]), BlockFault>
 fn assignment(extent: Extent, rest: &[u8]) -> Result<(Assignment, &[u8]), BlockFault>
     requires inside { length rest.now ≤ extent.end }
     requires fits { extent.end < 2 ^ 32 }
-    ensures gives { Answers (λ x. (x.0, x.1.now)) result (assignment_at extent rest.now) }
+    ensures gives { GivesSurely (λ x. (x.0, x.1.now)) result (assignment_at extent rest.now) }
     ensures shorter { IfOk result (λ x. length x.1.now ≤ length rest.now) }
 {
     let (tx, rest) = period(extent, rest)?;
@@ -40,7 +40,7 @@ fn assignment(extent: Extent, rest: &[u8]) -> Result<(Assignment, &[u8]), BlockF
 fn number_below(extent: Extent, rest: &[u8], count: u32) -> Result<(u16, &[u8]), BlockFault>
     requires inside { length rest.now ≤ extent.end }
     requires fits { extent.end < 2 ^ 32 }
-    ensures gives { Answers (λ x. (x.0, x.1.now)) result (ruled_at 2 (is_below count) extent rest.now) }
+    ensures gives { GivesSurely (λ x. (x.0, x.1.now)) result (ruled_at 2 (is_below count) extent rest.now) }
     ensures shorter { IfOk result (λ x. length x.1.now ≤ length rest.now) }
 {
     let (number, after) = u16_at(extent, rest)?;
@@ -52,7 +52,7 @@ fn number_below(extent: Extent, rest: &[u8], count: u32) -> Result<(u16, &[u8]),
 fn phase(extent: Extent, rest: &[u8], count: u32) -> Result<(PhasePair, &[u8]), BlockFault>
     requires inside { length rest.now ≤ extent.end }
     requires fits { extent.end < 2 ^ 32 }
-    ensures gives { Answers (λ x. (x.0, x.1.now)) result (phase_at count extent rest.now) }
+    ensures gives { GivesSurely (λ x. (x.0, x.1.now)) result (phase_at count extent rest.now) }
     ensures shorter { IfOk result (λ x. length x.1.now ≤ length rest.now) }
 {
     let (tx, rest) = number_below(extent, rest, count)?;

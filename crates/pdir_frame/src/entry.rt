@@ -1,7 +1,7 @@
 //! One entry.
 
 ghost use Rattle.std.specs.Prelude.{◌≡◌, ◌≤◌, ◌<◌, ◌^◌, ◌++◌, length, IfOk, OnOk};
-ghost use Rattle.irt_block.specs.Reading.{Answers, ruled_at};
+ghost use Rattle.irt_block.specs.Reading.{GivesSurely, ruled_at};
 ghost use Rattle.pdir_frame.specs.Frames.{is_data_length, is_ratio, entry_at, entry_bytes};
 
 use irt_base::blocks::Entry;
@@ -37,7 +37,7 @@ fn is_ratio_of(ratio: u16) -> bool
 fn data_length(extent: Extent, rest: &[u8]) -> Result<(u16, &[u8]), BlockFault>
     requires inside { length rest.now ≤ extent.end }
     requires fits { extent.end < 2 ^ 32 }
-    ensures gives { Answers (λ x. (x.0, x.1.now)) result (ruled_at 2 is_data_length extent rest.now) }
+    ensures gives { GivesSurely (λ x. (x.0, x.1.now)) result (ruled_at 2 is_data_length extent rest.now) }
     ensures shorter { IfOk result (λ x. length x.1.now ≤ length rest.now) }
 {
     let (bytes, after) = u16_at(extent, rest)?;
@@ -48,7 +48,7 @@ fn data_length(extent: Extent, rest: &[u8]) -> Result<(u16, &[u8]), BlockFault>
 fn ratio(extent: Extent, rest: &[u8]) -> Result<(u16, &[u8]), BlockFault>
     requires inside { length rest.now ≤ extent.end }
     requires fits { extent.end < 2 ^ 32 }
-    ensures gives { Answers (λ x. (x.0, x.1.now)) result (ruled_at 2 is_ratio extent rest.now) }
+    ensures gives { GivesSurely (λ x. (x.0, x.1.now)) result (ruled_at 2 is_ratio extent rest.now) }
     ensures shorter { IfOk result (λ x. length x.1.now ≤ length rest.now) }
 {
     let (ratio, after) = u16_at(extent, rest)?;
@@ -61,7 +61,7 @@ fn ratio(extent: Extent, rest: &[u8]) -> Result<(u16, &[u8]), BlockFault>
 pub fn entry_of(extent: Extent, rest: &[u8], least: u16) -> Result<(Entry, &[u8]), BlockFault>
     requires inside { length rest.now ≤ extent.end }
     requires fits { extent.end < 2 ^ 32 }
-    ensures gives { Answers (λ x. (x.0, x.1.now)) result (entry_at least extent rest.now) }
+    ensures gives { GivesSurely (λ x. (x.0, x.1.now)) result (entry_at least extent rest.now) }
     ensures shorter { IfOk result (λ x. length x.1.now ≤ length rest.now) }
     ensures frame { IfOk result (λ x. x.0.frame.0 ≤ MAX_FRAME) }
 {

@@ -51,9 +51,9 @@ AreInOrder next [] = ⊤
 AreInOrder next (rule ∷ rules) = (later_number rule ≡ next) × AreInOrder (next + 1) rules
 
 -- what is found of the rules of lower numbers
-abbrev pub IsFound : ℕ → Plant → List Bundle → Option Reject → Type 0
-IsFound next plant bundles None = HoldBelow next plant bundles
-IsFound next plant bundles (Some r) = IsReject plant bundles r
+abbrev pub IsFirstReject : ℕ → Plant → List Bundle → Option Reject → Type 0
+IsFirstReject next plant bundles None = HoldBelow next plant bundles
+IsFirstReject next plant bundles (Some r) = IsReject plant bundles r
 
 -- a plan with the ways of its entries, its links and demands, whose headers hold
 pub record IsTable (t : Table) : Type 0 where

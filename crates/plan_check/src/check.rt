@@ -2,7 +2,7 @@
 
 ghost use Rattle.std.specs.Prelude.{◌≡◌, IfOk};
 ghost use Rattle.irt_window.specs.Trees.{AreWindows};
-ghost use Rattle.plan_check.specs.Order.{HoldBelow, IsFound};
+ghost use Rattle.plan_check.specs.Order.{HoldBelow, IsFirstReject};
 ghost use Rattle.plan_check.specs.Settled.{IsSettled};
 ghost use Rattle.plan_check.specs.Verdicts.{IsAcceptance, IsRejection, IsAccept};
 ghost use Rattle.plan_check.specs.declared.check.Verdict.TheVariants as verdicts;
@@ -107,7 +107,7 @@ fn later_reject(
     requires plan { IsPlan plant.now bundles.now }
     requires windows { AreWindows plant.now bundles.now windows.now }
     requires before { HoldBelow 3 plant.now bundles.now }
-    ensures { IfOk result (IsFound 16 plant.now bundles.now) }
+    ensures { IfOk result (IsFirstReject 16 plant.now bundles.now) }
 {
     let numbers = demand_numbers(alloc, plant)?;
     let links = LinkIndex::new(alloc, plant)?;

@@ -3,7 +3,7 @@
 ghost use Rattle.std.specs.Prelude.{◌≡◌, ◌<◌, ◌≤◌, ◌↔◌, Some, IfOk, IsTrue, length, slice_get};
 ghost use Rattle.irt_base.specs.declared.plants.Clocks.TheVariants as clocks;
 ghost use Rattle.irt_route.specs.Clocks.{IsClockTreeOf};
-ghost use Rattle.irt_topo.specs.Meets.{MeetsRules};
+ghost use Rattle.plant_rules.specs.Meets.{MeetsRules};
 ghost use Rattle.plan_check.specs.Late.{IsLate, device_place};
 ghost use Rattle.plan_rules.specs.Headers.{KeepsClock, RepeatsPlant};
 ghost use Rattle.plan_rules.specs.Plan.{IsPlan};

@@ -1,7 +1,7 @@
 //! The first rule that fails.
 
 ghost use Rattle.std.specs.Prelude.{◌≡◌, ◌+◌, length, IfOk};
-ghost use Rattle.plan_check.specs.Order.{AreInOrder, HoldBelow, IsFound, IsTable};
+ghost use Rattle.plan_check.specs.Order.{AreInOrder, HoldBelow, IsFirstReject, IsTable};
 
 use crate::later::{Table, break_of};
 use crate::rules::LaterRule;
@@ -18,7 +18,7 @@ pub fn first_reject(
     requires table { IsTable table.now }
     requires order { AreInOrder 3 rules.now }
     requires before { HoldBelow 3 table.now.plant.now table.now.bundles.now }
-    ensures { IfOk result (IsFound (3 + length rules.now) table.now.plant.now table.now.bundles.now) }
+    ensures { IfOk result (IsFirstReject (3 + length rules.now) table.now.plant.now table.now.bundles.now) }
 {
     for rule in rules {
         if let Some(place) = break_of(*rule, alloc, table)? {

@@ -1,7 +1,7 @@
 //! A plan on a line of three devices, and one change for each rule that breaks it first.
 
 ghost use Rattle.std.specs.Prelude.{IfOk, IsTrue};
-ghost use Rattle.irt_topo.specs.Meets.{MeetsRules};
+ghost use Rattle.plant_rules.specs.Meets.{MeetsRules};
 ghost use Rattle.plan_rules.specs.Plan.{IsPlan};
 
 use crate::check::{Verdict, check};

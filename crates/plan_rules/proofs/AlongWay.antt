@@ -7,11 +7,11 @@ use Rattle.irt_base.specs.Cycle.{cycle_time}
 use Rattle.irt_base.specs.Valid.{IsWithin}
 use Rattle.irt_base.specs.declared.blocks.Entry.{Entry}
 use Rattle.irt_base.specs.declared.plants.Device.{Device}
-use Rattle.irt_topo.specs.Meets.{MeetsRules}
-use Rattle.irt_timing.specs.World.{WorldRow, IsInStep}
-use Rattle.irt_timing.specs.Window.{IsInWindow}
-use Rattle.irt_timing.specs.Way.{Setup, entry_at, Leaves, IsParent, IsLive, provided, forwarded, IsStart, by_offset, by_arrival, IsRelay, IsInRange}
-use Rattle.irt_timing.specs.SendWindow.{SendWindow, HasWindow, at_anchor, behind}
+use Rattle.plant_rules.specs.Meets.{MeetsRules}
+use Rattle.plan_rules.specs.World.{WorldRow, IsInStep}
+use Rattle.plan_rules.proofs.StartWindow.{IsInWindow}
+use Rattle.plan_rules.specs.Way.{Setup, entry_at, Leaves, IsParent, IsLive, provided, forwarded, IsStart, by_offset, by_arrival, IsRelay, IsInRange}
+use Rattle.plan_rules.specs.SendWindow.{SendWindow, HasWindow, at_anchor, behind}
 use Rattle.plan_rules.proofs.OneWay.{one_parent, anchor_window, later_window}
 
 -- what is live is in step

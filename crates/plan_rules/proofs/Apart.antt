@@ -11,11 +11,12 @@ use Rattle.irt_base.specs.declared.blocks.Entry.{Entry}
 use Rattle.irt_base.specs.declared.blocks.Period.{Period}
 use Rattle.irt_base.specs.declared.blocks.Side.TheVariants.{Tx}
 use Rattle.irt_base.specs.declared.plants.Plant.{Plant}
-use Rattle.irt_timing.specs.World.{WorldRow, IsInStep}
-use Rattle.irt_timing.specs.Window.{IsInWindow, IsOff}
-use Rattle.irt_timing.specs.Way.{IsInRange}
-use Rattle.irt_timing.specs.SendWindow.{SendWindow}
-use Rattle.irt_timing.specs.Occupation.{Occupation, IsOccupation, IsSameSending, IsSameDirection, IsDisjoint}
+use Rattle.plan_rules.specs.World.{WorldRow, IsInStep}
+use Rattle.plan_rules.proofs.StartWindow.{IsInWindow}
+use Rattle.plan_rules.specs.World.{IsWithinWindow}
+use Rattle.plan_rules.specs.Way.{IsInRange}
+use Rattle.plan_rules.specs.SendWindow.{SendWindow}
+use Rattle.plan_rules.specs.Occupation.{Occupation, IsOccupation, IsSameSending, IsSameDirection, IsDisjoint}
 use Rattle.plan_rules.specs.Expected.{IsFree, NeverCollides, LeavesFree}
 use Rattle.plan_rules.specs.Frames.{IsSending, IsBefore}
 use Rattle.plan_rules.specs.Plan.{IsPlan, setup_of}
@@ -90,7 +91,7 @@ never_collides plant bundles plan accepted world ranges rows are =
 
 -- a stretch that is left to parcels, in plain numbers
 pub record IsOpen (period window k orange : ℕ) (error from until : ℤ) : Type 0 where
-  pub off : IsOff error (pos window)
+  pub off : IsWithinWindow error (pos window)
   pub opens : (pos (k * period + orange) +ℤ error) ≤ℤ from
   pub closes : (until +ℤ pos (guard_time window)) ≤ℤ (pos ((k + 1) * period) +ℤ error)
 

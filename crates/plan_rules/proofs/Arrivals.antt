@@ -17,11 +17,12 @@ use Rattle.irt_base.specs.declared.plants.Mode.{Mode}
 use Rattle.irt_base.specs.declared.plants.Mode.TheVariants.{Absolute, Relative}
 use Rattle.irt_base.specs.declared.plants.Demand.{Demand}
 use Rattle.irt_base.specs.declared.plants.Plant.{Plant}
-use Rattle.irt_topo.specs.Meets.{IsDemand}
-use Rattle.irt_timing.specs.World.{WorldRow}
-use Rattle.irt_timing.specs.Window.{IsInWindow, IsOff}
-use Rattle.irt_timing.specs.Way.{entry_at, Leaves, IsAbsolute, IsParent, IsInRange}
-use Rattle.irt_timing.specs.Tree.{demand_of}
+use Rattle.plant_rules.specs.Meets.{IsDemand}
+use Rattle.plan_rules.specs.World.{WorldRow}
+use Rattle.plan_rules.proofs.StartWindow.{IsInWindow}
+use Rattle.plan_rules.specs.World.{IsWithinWindow}
+use Rattle.plan_rules.specs.Way.{entry_at, Leaves, IsAbsolute, IsParent, IsInRange}
+use Rattle.plan_rules.specs.Tree.{demand_of}
 use Rattle.plan_rules.specs.Expected.{DeliversInTime, TakesArrivals}
 use Rattle.plan_rules.specs.Frames.{IsForwarded}
 use Rattle.plan_rules.specs.Headers.{is_relative}
@@ -34,7 +35,7 @@ use Rattle.plan_rules.proofs.PortPeriods.{cycle_of, period_of_phase}
 use Rattle.plan_rules.proofs.Sendings.{devices_of, due_in_phase}
 
 -- a frame that starts in its window is there in time
-in_window_in_time : (origin lo hi hop wire window : ℕ) (error start end : ℤ) → IsInWindow start (pos origin) error (pos lo) (pos hi) → IsOff error (pos window) →
+in_window_in_time : (origin lo hi hop wire window : ℕ) (error start end : ℤ) → IsInWindow start (pos origin) error (pos lo) (pos hi) → IsWithinWindow error (pos window) →
     end ≡ (start +ℤ pos (hop + wire)) → end ≤ℤ pos (origin + (hi + hop + wire + window))
 in_window_in_time origin lo hi hop wire window error start end inside off ends = omega (arith, ints)
 
@@ -70,12 +71,12 @@ local_time origin error start = start -ℤ (pos origin +ℤ error)
 is_local : (origin : ℕ) (error start : ℤ) → (pos origin +ℤ error +ℤ local_time origin error start) ≡ start
 is_local origin error start = omega (arith, ints)
 
-opens_in_time : (origin lo hi hop window red : ℕ) (error receiver sent start : ℤ) → IsInWindow sent (pos origin) error (pos lo) (pos hi) → IsOff error (pos window) →
-    IsOff receiver (pos window) → start ≡ (sent +ℤ pos hop) → red ≤ lo + hop → pos red ≤ℤ (local_time origin receiver start +ℤ pos (guard_time window))
+opens_in_time : (origin lo hi hop window red : ℕ) (error receiver sent start : ℤ) → IsInWindow sent (pos origin) error (pos lo) (pos hi) → IsWithinWindow error (pos window) →
+    IsWithinWindow receiver (pos window) → start ≡ (sent +ℤ pos hop) → red ≤ lo + hop → pos red ≤ℤ (local_time origin receiver start +ℤ pos (guard_time window))
 opens_in_time origin lo hi hop window red error receiver sent start inside off own comes before = omega (arith, ints)
 
 closes_in_time : (origin lo hi hop window more limit : ℕ) (error receiver sent start : ℤ) → IsInWindow sent (pos origin) error (pos lo) (pos hi) →
-    IsOff error (pos window) → IsOff receiver (pos window) → start ≡ (sent +ℤ pos hop) → hi + hop + more + guard_time window ≤ limit →
+    IsWithinWindow error (pos window) → IsWithinWindow receiver (pos window) → start ≡ (sent +ℤ pos hop) → hi + hop + more + guard_time window ≤ limit →
     (local_time origin receiver start +ℤ pos more) ≤ℤ pos limit
 closes_in_time origin lo hi hop window more limit error receiver sent start inside off own comes before = omega (arith, ints)
 

@@ -9,7 +9,7 @@ use Rattle.irt_base.specs.declared.blocks.Entry.{Entry}
 use Rattle.irt_base.specs.declared.blocks.FrameBlock.{FrameBlock}
 use Rattle.irt_base.specs.declared.plants.Device.{Device}
 use Rattle.irt_base.specs.declared.plants.Plant.{Plant}
-use Rattle.irt_timing.specs.Way.{entry_at}
+use Rattle.plan_rules.specs.Way.{entry_at}
 use Rattle.plan_rules.specs.Headers.{IsHeader}
 use Rattle.plan_rules.specs.Plan.{IsPlan, setup_of}
 use Rattle.plan_rules.specs.Places.{IsAccepted}

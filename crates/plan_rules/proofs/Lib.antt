@@ -5,6 +5,8 @@ pub mod Held
 pub mod OneWay
 pub mod PortPeriods
 pub mod Sendings
+pub mod StartWindow
 pub mod Times
 pub mod Wires
+mod TimingExample
 mod WorkedExample

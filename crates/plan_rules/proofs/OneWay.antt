@@ -6,9 +6,9 @@ use Rattle.irt_base.specs.declared.numbers.DevId.{DevId}
 use Rattle.irt_base.specs.declared.numbers.PortNo.{PortNo}
 use Rattle.irt_base.specs.declared.blocks.Entry.{Entry}
 use Rattle.irt_base.specs.declared.plants.Device.{Device}
-use Rattle.irt_topo.specs.Meets.{MeetsRules}
-use Rattle.irt_timing.specs.Way.{Setup, entry_at, IsAnchor, IsParent}
-use Rattle.irt_timing.specs.SendWindow.{SendWindow, HasWindow, at_anchor, behind}
+use Rattle.plant_rules.specs.Meets.{MeetsRules}
+use Rattle.plan_rules.specs.Way.{Setup, entry_at, IsAnchor, IsParent}
+use Rattle.plan_rules.specs.SendWindow.{SendWindow, HasWindow, at_anchor, behind}
 use Rattle.plan_rules.proofs.Wires.{end_of, mutual_peers}
 
 pub one_parent : (setup : Setup) → MeetsRules setup.plant → (frame device : ℕ) (e : Entry) (u p v q : ℕ) →

@@ -15,8 +15,8 @@ use Rattle.irt_base.specs.declared.blocks.Side.{Side}
 use Rattle.irt_base.specs.declared.blocks.Side.TheVariants.{Tx, Rx}
 use Rattle.irt_base.specs.declared.plants.Device.{Device}
 use Rattle.irt_base.specs.declared.plants.Plant.{Plant}
-use Rattle.irt_topo.specs.Rules.{is_within, has_port}
-use Rattle.irt_topo.specs.Meets.{HasPort, IsLink, MeetsRules}
+use Rattle.plant_rules.specs.Words.{is_within, has_port}
+use Rattle.plant_rules.specs.Meets.{HasPort, IsLink, MeetsRules}
 use Rattle.plan_rules.specs.Periods.{AreOrdered}
 use Rattle.plan_rules.specs.Plan.{IsPlan}
 use Rattle.plan_rules.specs.Places.{IsAccepted}

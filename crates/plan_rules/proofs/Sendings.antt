@@ -9,11 +9,11 @@ use Rattle.irt_base.specs.declared.blocks.Bundle.{Bundle}
 use Rattle.irt_base.specs.declared.blocks.Entry.{Entry}
 use Rattle.irt_base.specs.declared.blocks.Side.TheVariants.{Tx}
 use Rattle.irt_base.specs.declared.plants.Plant.{Plant}
-use Rattle.irt_timing.specs.World.{WorldRow, IsInStep}
-use Rattle.irt_timing.specs.Window.{IsInWindow}
-use Rattle.irt_timing.specs.Way.{IsInRange}
-use Rattle.irt_timing.specs.SendWindow.{SendWindow, slack_time}
-use Rattle.irt_timing.specs.Occupation.{Occupation, IsOccupation}
+use Rattle.plan_rules.specs.World.{WorldRow, IsInStep}
+use Rattle.plan_rules.proofs.StartWindow.{IsInWindow}
+use Rattle.plan_rules.specs.Way.{IsInRange}
+use Rattle.plan_rules.specs.SendWindow.{SendWindow, slack_time}
+use Rattle.plan_rules.specs.Occupation.{Occupation, IsOccupation}
 use Rattle.plan_rules.specs.Frames.{IsSending}
 use Rattle.plan_rules.specs.Plan.{IsPlan, setup_of}
 use Rattle.plan_rules.specs.Places.{IsAccepted}

@@ -5,8 +5,9 @@ use Rattle.std.proofs.lemmas.Bool.{cond-true, cond-false}
 use Rattle.std.proofs.lemmas.Bool.Decides.{eqb_tells}
 use Rattle.std.proofs.lemmas.Int.{ints}
 use Rattle.irt_base.specs.Cycle.{guard_time}
-use Rattle.irt_timing.specs.Window.{IsInWindow, IsOff}
-use Rattle.irt_timing.specs.SendWindow.{slack_time}
+use Rattle.plan_rules.proofs.StartWindow.{IsInWindow}
+use Rattle.plan_rules.specs.World.{IsWithinWindow}
+use Rattle.plan_rules.specs.SendWindow.{slack_time}
 
 -- what the slack is
 slack_cases : (window first second : ℕ) → ((first ≡ second) × (slack_time window first second ≡ 0)) ⊎ (slack_time window first second ≡ guard_time window)
@@ -21,7 +22,7 @@ pub record IsInBox (period window k : ℕ) (start end : ℤ) : Type 0 where
   pub low : pos (k * period) ≤ℤ (start +ℤ pos window)
   pub high : (end +ℤ pos window) ≤ℤ pos ((k + 1) * period)
 
-pub boxed : (period window k lo hi wire : ℕ) (error start end : ℤ) → IsInWindow start (pos (k * period)) error (pos lo) (pos hi) → IsOff error (pos window) →
+pub boxed : (period window k lo hi wire : ℕ) (error start end : ℤ) → IsInWindow start (pos (k * period)) error (pos lo) (pos hi) → IsWithinWindow error (pos window) →
     end ≡ (start +ℤ pos wire) → hi + wire + guard_time window ≤ period → IsInBox period window k start end
 boxed period window k lo hi wire error start end inside off ends fits = record { low = omega (arith, ints); high = omega (arith, ints) }
 
@@ -33,7 +34,7 @@ boxes_apart period window j k s e t f first second before =
 
 -- two frames of one cycle follow each other as their windows say
 pub windows_apart : (window origin lo hi lo2 hi2 wire anchor anchor2 : ℕ) (error : ℕ → ℤ) (s t : ℤ) → IsInWindow s (pos origin) (error anchor) (pos lo) (pos hi) →
-    IsInWindow t (pos origin) (error anchor2) (pos lo2) (pos hi2) → IsOff (error anchor) (pos window) → IsOff (error anchor2) (pos window) →
+    IsInWindow t (pos origin) (error anchor2) (pos lo2) (pos hi2) → IsWithinWindow (error anchor) (pos window) → IsWithinWindow (error anchor2) (pos window) →
     hi + wire + slack_time window anchor anchor2 ≤ lo2 → (s +ℤ pos wire) ≤ℤ t
 windows_apart window origin lo hi lo2 hi2 wire anchor anchor2 error s t first second off off2 before =
     elim (slack_cases window anchor anchor2) [
@@ -43,7 +44,7 @@ windows_apart window origin lo hi lo2 hi2 wire anchor anchor2 error s t first se
 
 -- a frame is off the wire when the sender's orange period begins
 pub before_orange : (window origin lo hi wire orange device anchor : ℕ) (error : ℕ → ℤ) (s : ℤ) → IsInWindow s (pos origin) (error anchor) (pos lo) (pos hi) →
-    IsOff (error anchor) (pos window) → IsOff (error device) (pos window) → hi + wire + slack_time window device anchor ≤ orange →
+    IsWithinWindow (error anchor) (pos window) → IsWithinWindow (error device) (pos window) → hi + wire + slack_time window device anchor ≤ orange →
     (s +ℤ pos wire) ≤ℤ (pos (origin + orange) +ℤ error device)
 before_orange window origin lo hi wire orange device anchor error s inside off own before =
     elim (slack_cases window device anchor) [

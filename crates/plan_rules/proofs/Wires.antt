@@ -8,8 +8,8 @@ use Rattle.irt_base.specs.declared.numbers.DevId.{DevId}
 use Rattle.irt_base.specs.declared.numbers.PortNo.{PortNo}
 use Rattle.irt_base.specs.declared.plants.Link.{Link}
 use Rattle.irt_base.specs.declared.plants.Plant.{Plant}
-use Rattle.irt_topo.specs.Rules.{share_port}
-use Rattle.irt_topo.specs.Meets.{IsLink, MeetsRules}
+use Rattle.plant_rules.specs.Words.{share_port}
+use Rattle.plant_rules.specs.Meets.{IsLink, MeetsRules}
 
 abbrev pub end_of : ℕ → ℕ → DevId × PortNo
 end_of d p = (record { 0 = d }, record { 0 = p })

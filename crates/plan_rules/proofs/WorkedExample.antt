@@ -15,10 +15,10 @@ use Rattle.irt_base.specs.declared.plants.Link.{Link}
 use Rattle.irt_base.specs.declared.plants.Mode.{Mode}
 use Rattle.irt_base.specs.declared.plants.Mode.TheVariants as modes
 use Rattle.irt_base.specs.declared.plants.Plant.{Plant}
-use Rattle.irt_timing.specs.World.{WorldRow}
-use Rattle.irt_timing.specs.Way.{Setup, entry_at, IsAnchor, IsParent, IsLive, provided, forwarded, IsStart, by_offset, by_arrival}
-use Rattle.irt_timing.specs.SendWindow.{HasWindow, at_anchor, behind}
-use Rattle.irt_timing.specs.Occupation.{Occupation, IsOccupation, IsSameSending}
+use Rattle.plan_rules.specs.World.{WorldRow}
+use Rattle.plan_rules.specs.Way.{Setup, entry_at, IsAnchor, IsParent, IsLive, provided, forwarded, IsStart, by_offset, by_arrival}
+use Rattle.plan_rules.specs.SendWindow.{HasWindow, at_anchor, behind}
+use Rattle.plan_rules.specs.Occupation.{Occupation, IsOccupation, IsSameSending}
 use Rattle.plan_rules.specs.Expected.{IsFree, NeverCollides}
 use Rattle.plan_rules.specs.Plan.{setup_of}
 

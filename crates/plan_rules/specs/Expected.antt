@@ -7,10 +7,10 @@ use Rattle.irt_base.specs.declared.blocks.Entry.{Entry}
 use Rattle.irt_base.specs.declared.blocks.Period.{Period}
 use Rattle.irt_base.specs.declared.blocks.Side.TheVariants.{Tx, Rx}
 use Rattle.irt_base.specs.declared.plants.Plant.{Plant}
-use Rattle.irt_timing.specs.World.{WorldRow, IsInStep}
-use Rattle.irt_timing.specs.Way.{entry_at, Leaves, IsInRange}
-use Rattle.irt_timing.specs.Occupation.{Occupation, IsOccupation, AreOccupations, AreApart}
-use Rattle.irt_timing.specs.Arrival.{Arrival, IsArrival, Delivery, IsDelivery, IsInTime}
+use Rattle.plan_rules.specs.World.{WorldRow, IsInStep}
+use Rattle.plan_rules.specs.Way.{entry_at, Leaves, IsInRange}
+use Rattle.plan_rules.specs.Occupation.{Occupation, IsOccupation, AreOccupations, AreApart}
+use Rattle.plan_rules.specs.Arrival.{Arrival, IsArrival, Delivery, IsDelivery, IsInTime}
 use Rattle.plan_rules.specs.Plan.{setup_of}
 
 -- A stretch of true time, in ns, that a sender's port leaves to parcels: in a cycle in which the sender is in

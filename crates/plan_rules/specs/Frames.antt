@@ -11,9 +11,9 @@ use Rattle.irt_base.specs.declared.blocks.Side.TheVariants.{Tx, Rx}
 use Rattle.irt_base.specs.declared.plants.Demand.{Demand}
 use Rattle.irt_base.specs.declared.plants.Device.{Device}
 use Rattle.irt_base.specs.declared.plants.Plant.{Plant}
-use Rattle.irt_timing.specs.Way.{Setup, entry_at, Leaves, IsAbsolute, IsAnchor, IsParent}
-use Rattle.irt_timing.specs.Tree.{IsInTree, demand_of}
-use Rattle.irt_timing.specs.SendWindow.{SendWindow, HasWindow, slack_time}
+use Rattle.plan_rules.specs.Way.{Setup, entry_at, Leaves, IsAbsolute, IsAnchor, IsParent}
+use Rattle.plan_rules.specs.Tree.{IsInTree, demand_of}
+use Rattle.plan_rules.specs.SendWindow.{SendWindow, HasWindow, slack_time}
 use Rattle.plan_rules.specs.Plan.{setup_of}
 use Rattle.plan_rules.specs.declared.place.Place.{Place}
 

@@ -9,7 +9,7 @@ use Rattle.irt_base.specs.declared.plants.Device.{Device}
 use Rattle.irt_base.specs.declared.plants.Mode.{Mode}
 use Rattle.irt_base.specs.declared.plants.Mode.TheVariants.{Absolute, Relative}
 use Rattle.irt_base.specs.declared.plants.Plant.{Plant}
-use Rattle.irt_topo.specs.Clocks.{IsDistance}
+use Rattle.plant_rules.specs.Clocks.{IsDistance}
 use Rattle.plan_rules.specs.declared.place.Place.{Place}
 
 abbrev pub is_relative : Mode → Bool

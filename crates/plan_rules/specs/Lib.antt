@@ -1,7 +1,13 @@
+pub mod Arrival
 pub mod Expected
 pub mod Frames
 pub mod Headers
+pub mod Occupation
 pub mod Periods
 pub mod Plan
 pub mod Places
+pub mod SendWindow
+pub mod Tree
+pub mod Way
 pub mod Ways
+pub mod World

@@ -3,8 +3,8 @@ use Rattle.std.specs.Prelude.{◌≡◌, List, All, map, length}
 use Rattle.irt_base.specs.Valid.{IsBundle}
 use Rattle.irt_base.specs.declared.blocks.Bundle.{Bundle}
 use Rattle.irt_base.specs.declared.plants.Plant.{Plant}
-use Rattle.irt_topo.specs.Meets.{MeetsRules}
-use Rattle.irt_timing.specs.Way.{Setup}
+use Rattle.plant_rules.specs.Meets.{MeetsRules}
+use Rattle.plan_rules.specs.Way.{Setup}
 
 -- the plant and the frame blocks of its devices
 abbrev pub setup_of : Plant → List Bundle → Setup

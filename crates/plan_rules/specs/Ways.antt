@@ -4,8 +4,8 @@ use Rattle.irt_base.specs.Wiring.{hop_of}
 use Rattle.irt_base.specs.declared.blocks.Bundle.{Bundle}
 use Rattle.irt_base.specs.declared.blocks.Entry.{Entry}
 use Rattle.irt_base.specs.declared.plants.Plant.{Plant}
-use Rattle.irt_timing.specs.Way.{Setup, IsParent}
-use Rattle.irt_timing.specs.SendWindow.{SendWindow, HasWindow}
+use Rattle.plan_rules.specs.Way.{Setup, IsParent}
+use Rattle.plan_rules.specs.SendWindow.{SendWindow, HasWindow}
 use Rattle.plan_rules.specs.Plan.{setup_of}
 use Rattle.plan_rules.specs.declared.way.Way.{Way}
 

@@ -4,9 +4,9 @@ ghost use Rattle.std.specs.Prelude.{◌≡◌, ℕ, Some};
 ghost use Rattle.irt_base.specs.Wiring.{peer_of};
 ghost use Rattle.irt_base.specs.declared.blocks.Entry.{Entry};
 ghost use Rattle.irt_base.specs.declared.plants.Plant.{Plant};
-ghost use Rattle.irt_topo.specs.Meets.{MeetsRules};
-ghost use Rattle.irt_timing.specs.Way.{Setup, IsParent};
-ghost use Rattle.irt_timing.specs.SendWindow.{SendWindow, HasWindow};
+ghost use Rattle.plant_rules.specs.Meets.{MeetsRules};
+ghost use Rattle.plan_rules.specs.Way.{Setup, IsParent};
+ghost use Rattle.plan_rules.specs.SendWindow.{SendWindow, HasWindow};
 
 /// On a plant that meets its rules each end of a link is the other's peer. So a frame has one parent at a device,
 /// and one window.

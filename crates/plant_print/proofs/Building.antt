@@ -9,7 +9,7 @@ use Rattle.std.specs.Ordering.{match_ordering}
 use Rattle.toml.proofs.Views.{Entry}
 use Rattle.toml.specs.View.{view, members_view}
 use Rattle.toml.specs.declared.value.Value.{Value}
-use Rattle.irt_topo.specs.Meets.{IsName, IsNameByte}
+use Rattle.plant_rules.specs.Meets.{IsName, IsNameByte}
 use Rattle.plant_print.specs.Written.{with_member}
 
 match_members : (o : Ordering) (a b c : List Entry) → members_view (match_ordering o a b c) ≡ match_ordering o (members_view a) (members_view b) (members_view c)

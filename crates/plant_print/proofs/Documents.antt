@@ -6,7 +6,7 @@ use Rattle.toml.specs.Parse.{parse_document}
 use Rattle.irt_base.specs.declared.plants.Plant.{Plant}
 use Rattle.plant_shape.specs.Shape.{document_shape, table_shape}
 use Rattle.plant_shape.proofs.Documents.{document_some}
-use Rattle.irt_topo.specs.Meets.{MeetsRules}
+use Rattle.plant_rules.specs.Meets.{MeetsRules}
 use Rattle.irt_topo.specs.Reading.{IsPlantDocument}
 use Rattle.plant_print.specs.Printed.{printed_plant}
 use Rattle.plant_print.specs.Written.{plant_members, HasWordFields}

@@ -23,7 +23,7 @@ use Rattle.irt_base.specs.declared.plants.Traffic.{Traffic}
 use Rattle.irt_base.specs.declared.plants.App.{App}
 use Rattle.irt_base.specs.declared.plants.Plant.{Plant}
 use Rattle.plant_shape.specs.Shape.{numbers_of, each_item, clocks_of, mode_of, class_of, app_name_of, sync_of, device_of, link_of, demand_of, traffic_of, app_of, raw_plant}
-use Rattle.irt_topo.specs.Meets.{IsDevice, IsLink, IsDemand, IsTraffic, IsSyncPlan, MeetsRules}
+use Rattle.plant_rules.specs.Meets.{IsDevice, IsLink, IsDemand, IsTraffic, IsSyncPlan, MeetsRules}
 use Rattle.plant_print.specs.Printed.{name_at, printed_port, printed_sync, printed_device, printed_link, printed_demand, printed_traffic, printed_app, printed_plant}
 use Rattle.plant_print.specs.Written.{clocks_text, mode_text, class_text, app_text, port_data, sync_data, device_data, link_data, name_data, demand_data, traffic_data, app_data, plant_members}
 

@@ -15,9 +15,9 @@ use Rattle.irt_base.specs.declared.plants.App.{App}
 use Rattle.irt_base.specs.declared.plants.Plant.{Plant}
 use Rattle.plant_shape.specs.declared.raw.RawDevice.{RawDevice}
 use Rattle.irt_topo.specs.Stated.{in_byte, in_two_bytes, stated_device_id, stated_port, stated_sync, stated_device, stated_link, stated_demand, stated_traffic, stated_app, stated_plant}
-use Rattle.irt_topo.specs.Rules.{same_name, is_within}
-use Rattle.irt_topo.specs.Meets.{HasPort, IsDevice, IsLink, IsDemand, IsConsumer, IsTraffic, IsApp, IsSyncPlan, MeetsRules}
-use Rattle.irt_topo.proofs.Delays.{all_at}
+use Rattle.plant_rules.specs.Words.{same_name, is_within}
+use Rattle.plant_rules.specs.Meets.{HasPort, IsDevice, IsLink, IsDemand, IsConsumer, IsTraffic, IsApp, IsSyncPlan, MeetsRules}
+use Rattle.plant_rules.proofs.Delays.{all_at}
 use Rattle.irt_topo.proofs.ItemTests.{within}
 use Rattle.plant_print.specs.Printed.{name_at, printed_port, printed_sync, printed_device, printed_link, printed_demand, printed_traffic, printed_app, printed_plant}
 

@@ -3,7 +3,7 @@
 ghost use Rattle.std.specs.Prelude.{◌≡◌, IfOk, OnOk};
 ghost use Rattle.toml.specs.Data.{string};
 ghost use Rattle.toml.specs.View.{view, table_view};
-ghost use Rattle.irt_topo.specs.Meets.{IsName};
+ghost use Rattle.plant_rules.specs.Meets.{IsName};
 ghost use Rattle.plant_print.specs.Written.{number_data, with_member};
 
 use irt_base::memory::NoMemory;

@@ -2,7 +2,7 @@
 
 ghost use Rattle.std.specs.Prelude.{◌≡◌, ◌<◌, ◌^◌, IfOk, OnOk};
 ghost use Rattle.toml.specs.View.{table_view};
-ghost use Rattle.irt_topo.specs.Meets.{MeetsRules};
+ghost use Rattle.plant_rules.specs.Meets.{MeetsRules};
 ghost use Rattle.irt_topo.specs.Reading.{IsPlantDocument};
 ghost use Rattle.plant_print.specs.Written.{HasWordFields, plant_members};
 

@@ -3,7 +3,7 @@
 ghost use Rattle.std.specs.Prelude.{◌≡◌, ◌<◌, ◌^◌, IfOk, OnOk};
 ghost use Rattle.std.specs.List.{AllByRecursion};
 ghost use Rattle.toml.specs.View.{view, table_view};
-ghost use Rattle.irt_topo.specs.Meets.{IsName, MeetsRules};
+ghost use Rattle.plant_rules.specs.Meets.{IsName, MeetsRules};
 ghost use Rattle.plant_print.specs.Written.{port_data, sync_data, device_data, link_data, name_data, demand_data, traffic_data, app_data, list_data};
 
 use crate::build::{name_value, number_value, put, put_name, put_number, put_text};

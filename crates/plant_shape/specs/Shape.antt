@@ -210,9 +210,9 @@ abbrev pub shape_of : List ℕ → Result RawPlant ShapeFault
 shape_of bytes = document_shape (document_of bytes)
 
 -- an answer is the one that is stated, or want of memory
-abbrev pub Answers : Result RawPlant ShapeFault → Result RawPlant ShapeFault → Type 0
-Answers (Err faults.NoMemory) stated = ⊤
-Answers given stated = stated ≡ given
+abbrev pub IsShapeAnswer : Result RawPlant ShapeFault → Result RawPlant ShapeFault → Type 0
+IsShapeAnswer (Err faults.NoMemory) stated = ⊤
+IsShapeAnswer given stated = stated ≡ given
 
 -- for a loop over an array: what is left of it, with a front before
 abbrev pub rest_of : {A : Type 0} → (Data → Option A) → List A → DataItems → Option (List A)

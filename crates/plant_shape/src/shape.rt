@@ -3,7 +3,7 @@
 ghost use Rattle.std.specs.Prelude.{◌≡◌, codes, option_and_then};
 ghost use Rattle.toml.specs.Data.{get_member};
 ghost use Rattle.toml.specs.View.{array_view, table_view};
-ghost use Rattle.plant_shape.specs.Shape.{Gives, Answers, sync_or_default, optional_array, each_item, device_of, link_of, demand_of, traffic_of, app_of, raw_plant, shape_of};
+ghost use Rattle.plant_shape.specs.Shape.{Gives, IsShapeAnswer, sync_or_default, optional_array, each_item, device_of, link_of, demand_of, traffic_of, app_of, raw_plant, shape_of};
 
 use crate::choices::clocks_of;
 use crate::fault::ShapeFault;
@@ -22,7 +22,7 @@ use toml::value::Array;
 /// The shape of a plant file: NotToml where the bytes are no TOML document, Shape where it has not the
 /// keys, types and choices of a plant.
 pub fn read_shape(alloc: Global, bytes: &[u8]) -> Result<RawPlant, ShapeFault>
-    ensures { Answers result (shape_of bytes.now) }
+    ensures { IsShapeAnswer result (shape_of bytes.now) }
 {
     let table = match toml::table_from_slice(alloc, bytes) {
         Ok(table) => table,

@@ -1,7 +1,7 @@
 //! The routes of one plant, again and again.
 
 ghost use Rattle.std.specs.Prelude.{◌≡◌, IfOk};
-ghost use Rattle.irt_topo.specs.Meets.{MeetsRules};
+ghost use Rattle.plant_rules.specs.Meets.{MeetsRules};
 
 use irt_base::plants::Plant;
 use irt_route::fault::RouteFault;

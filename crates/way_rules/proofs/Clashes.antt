@@ -11,8 +11,8 @@ use Rattle.irt_base.specs.declared.numbers.FrameId.{FrameId}
 use Rattle.irt_base.specs.declared.blocks.Bundle.{Bundle}
 use Rattle.irt_base.specs.declared.blocks.Entry.{Entry}
 use Rattle.irt_base.specs.declared.plants.Plant.{Plant}
-use Rattle.irt_timing.specs.Way.{Setup}
-use Rattle.irt_timing.specs.SendWindow.{SendWindow, HasWindow, slack_time}
+use Rattle.plan_rules.specs.Way.{Setup}
+use Rattle.plan_rules.specs.SendWindow.{SendWindow, HasWindow, slack_time}
 use Rattle.plan_rules.specs.Plan.{setup_of, IsPlan}
 use Rattle.irt_window.specs.declared.ports.TheConstants.{TX_BITS}
 use Rattle.plan_rules.specs.Frames.{KeepsApart, IsSending, IsBefore}

@@ -8,8 +8,8 @@ use Rattle.irt_base.specs.declared.blocks.Bundle.{Bundle}
 use Rattle.irt_base.specs.declared.blocks.Entry.{Entry}
 use Rattle.irt_base.specs.declared.blocks.Side.TheVariants.{Tx, Rx}
 use Rattle.irt_base.specs.declared.plants.Plant.{Plant}
-use Rattle.irt_timing.specs.Way.{Leaves}
-use Rattle.irt_timing.specs.SendWindow.{SendWindow, slack_time}
+use Rattle.plan_rules.specs.Way.{Leaves}
+use Rattle.plan_rules.specs.SendWindow.{SendWindow, slack_time}
 use Rattle.plan_rules.specs.Plan.{setup_of, IsPlan}
 use Rattle.irt_window.specs.declared.ports.TheConstants.{TX_BITS}
 use Rattle.plan_rules.specs.Frames.{IsSentInRed, IsReceivedInRed, EndsInCycle, IsSending}

@@ -6,7 +6,7 @@ use Rattle.std.proofs.lemmas.List.Elements.{All-push, Contains-push, Contains-pu
 use Rattle.std.proofs.lemmas.List.Quantifiers.{all_pairs_push}
 use Rattle.std.proofs.lemmas.Option.{same_Some, slice_get-get_or}
 use Rattle.irt_base.specs.declared.blocks.Entry.{Entry}
-use Rattle.irt_timing.specs.Way.{Leaves}
+use Rattle.plan_rules.specs.Way.{Leaves}
 use Rattle.plan_rules.specs.declared.way.Way.{Way}
 use Rattle.window_sweep.specs.Slots.{IsSendSlot}
 use Rattle.window_sweep.specs.declared.slot.SendSlot.{SendSlot}

@@ -9,7 +9,7 @@ use Rattle.irt_base.specs.declared.blocks.PeriodBlock.{PeriodBlock}
 use Rattle.irt_base.specs.declared.blocks.Side.{Side}
 use Rattle.irt_base.specs.declared.plants.Device.{Device}
 use Rattle.irt_base.specs.declared.plants.Plant.{Plant}
-use Rattle.irt_timing.specs.Way.{Leaves, IsAbsolute}
+use Rattle.plan_rules.specs.Way.{Leaves, IsAbsolute}
 use Rattle.plan_rules.specs.declared.place.Place.{Place}
 use Rattle.plan_rules.specs.declared.way.Way.{Way}
 

@@ -4,7 +4,7 @@ use Rattle.std.specs.List.Sorted.{IsStrictlyIncreasing}
 use Rattle.irt_base.specs.Cycle.{wire_time}
 use Rattle.irt_base.specs.Valid.{IsEntry, frames_of}
 use Rattle.irt_base.specs.declared.blocks.Entry.{Entry}
-use Rattle.irt_timing.specs.Way.{Leaves}
+use Rattle.plan_rules.specs.Way.{Leaves}
 use Rattle.plan_rules.specs.declared.way.Way.{Way}
 use Rattle.window_sweep.specs.Slots.{AreSendSlots}
 use Rattle.window_sweep.specs.declared.slot.SendSlot.{SendSlot}

@@ -3,7 +3,7 @@
 ghost use Rattle.std.specs.Prelude.{◌≡◌, ℕ, ◌≤◌, ◌↔◌, List, None, IsTrue};
 ghost use Rattle.irt_base.specs.declared.blocks.Bundle.{Bundle};
 ghost use Rattle.irt_base.specs.declared.plants.Plant.{Plant};
-ghost use Rattle.irt_timing.specs.Way.{entry_at};
+ghost use Rattle.plan_rules.specs.Way.{entry_at};
 ghost use Rattle.plan_rules.specs.Plan.{IsPlan, setup_of};
 ghost use Rattle.way_rules.specs.Placed.{IsPlaced};
 

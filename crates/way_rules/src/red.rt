@@ -5,7 +5,7 @@ ghost use Rattle.std.proofs.Common.{sym, ◌∙◌, arith};
 ghost use Rattle.std.proofs.lemmas.Option.{none-some};
 ghost use Rattle.irt_base.specs.Periods.{period_at};
 ghost use Rattle.irt_base.specs.Valid.{IsEntry, IsPeriodBlock};
-ghost use Rattle.irt_timing.specs.SendWindow.{slack_time};
+ghost use Rattle.plan_rules.specs.SendWindow.{slack_time};
 ghost use Rattle.plan_rules.specs.Frames.{IsSentInRed, IsReceivedInRed};
 ghost use Rattle.irt_window.specs.declared.ports.TheConstants.{TX_BITS};
 ghost use Rattle.plan_rules.specs.Places.{IsScan};

@@ -1,7 +1,7 @@
 //! A sample plan in which every rule holds, and edits of its entries.
 
 ghost use Rattle.std.specs.Prelude.{IfOk};
-ghost use Rattle.irt_topo.specs.Meets.{MeetsRules};
+ghost use Rattle.plant_rules.specs.Meets.{MeetsRules};
 
 use block_values::plain_bundle;
 use irt_base::blocks::{Bundle, Entry};

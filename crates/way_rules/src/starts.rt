@@ -1,7 +1,7 @@
 //! Who starts an entry's frame.
 
 ghost use Rattle.std.specs.Prelude.{◌↔◌, IsTrue};
-ghost use Rattle.irt_timing.specs.Way.{IsAbsolute};
+ghost use Rattle.plan_rules.specs.Way.{IsAbsolute};
 ghost use Rattle.way_rules.specs.Fits.{IsOwnStart};
 
 use irt_base::blocks::Entry;

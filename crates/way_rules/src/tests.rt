@@ -1,7 +1,7 @@
 //! Tables of plans, each with the least places at which V3 to V9 fail.
 
 ghost use Rattle.std.specs.Prelude.{IsTrue};
-ghost use Rattle.irt_topo.specs.Meets.{MeetsRules};
+ghost use Rattle.plant_rules.specs.Meets.{MeetsRules};
 ghost use Rattle.plan_rules.specs.Plan.{IsPlan};
 ghost use Rattle.way_rules.specs.Placed.{IsWayPlan};
 

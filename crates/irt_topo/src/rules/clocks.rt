@@ -2,8 +2,10 @@
 
 ghost use Rattle.std.specs.Prelude.{◌≡◌, ℕ, true, false, ◌<◌, ◌≤◌, ◌^◌, ◌==◌, ◌||◌, IfSome, slice_index_or};
 ghost use Rattle.std.specs.List.{AllByRecursion, list_any};
-ghost use Rattle.irt_topo.specs.Clocks.{clock_budget, joins, hops_within, has_clock};
-ghost use Rattle.irt_topo.specs.Rules.{is_within, is_loss, is_sync_plan, follows_clock, clock_holds};
+ghost use Rattle.plant_rules.specs.Clocks.{clock_budget};
+ghost use Rattle.irt_topo.specs.Clocks.{joins, hops_within, has_clock};
+ghost use Rattle.plant_rules.specs.Words.{is_within};
+ghost use Rattle.irt_topo.specs.Rules.{is_loss, is_sync_plan, follows_clock, clock_holds};
 
 use irt_base::limits::{
     MAX_DEVICES, MAX_DRIFT, MAX_LOSS, MAX_SEND, MAX_STAMP, MAX_TIMEOUT, MIN_LOSS,

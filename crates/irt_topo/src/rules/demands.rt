@@ -2,7 +2,8 @@
 
 ghost use Rattle.std.specs.Prelude.{◌≡◌, ◌==◌, ◌%◌, ◌&&◌, not, nat_le, take, drop};
 ghost use Rattle.std.specs.List.{list_any, list_all};
-ghost use Rattle.irt_topo.specs.Rules.{is_within, is_device, all_differ, consumes, provides, words_of, words_where, frame_holds, demand_ends_hold, length_holds, update_holds, words_hold, passes_at};
+ghost use Rattle.plant_rules.specs.Words.{is_within, consumes, provides, words_of, words_where};
+ghost use Rattle.irt_topo.specs.Rules.{is_device, all_differ, frame_holds, demand_ends_hold, length_holds, update_holds, words_hold, passes_at};
 
 use irt_base::cycles::cycle_length;
 use irt_base::limits::{

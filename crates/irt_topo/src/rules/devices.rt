@@ -2,7 +2,8 @@
 
 ghost use Rattle.std.specs.Prelude.{◌≡◌, ◌&&◌, length, take};
 ghost use Rattle.std.specs.List.{list_any, list_all};
-ghost use Rattle.irt_topo.specs.Rules.{is_within, is_name_byte, is_name, same_name, is_port_delay, device_name_holds, device_ports_hold, bridge_holds, passes_at};
+ghost use Rattle.plant_rules.specs.Words.{is_within, same_name};
+ghost use Rattle.irt_topo.specs.Rules.{is_name_byte, is_name, is_port_delay, device_name_holds, device_ports_hold, bridge_holds, passes_at};
 
 use irt_base::blocks::PortDelay;
 use irt_base::limits::{MAX_DELAY, MAX_NAME, MAX_PORTS};

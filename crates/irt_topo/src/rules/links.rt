@@ -2,12 +2,13 @@
 
 ghost use Rattle.std.specs.Prelude.{◌≡◌, ◌+◌, ◌<◌, ◌^◌, [], take};
 ghost use Rattle.std.specs.List.{list_any};
-ghost use Rattle.irt_base.specs.Wiring.{tx_delay, rx_delay};
-ghost use Rattle.irt_topo.specs.Rules.{fits_cycle, has_port, same_port, share_port, hop_there, hop_back, link_ends_hold, link_delay_holds, passes_at};
+ghost use Rattle.plant_rules.specs.Words.{has_port, same_port, share_port, hop_there, hop_back};
+ghost use Rattle.irt_topo.specs.Rules.{fits_cycle, link_ends_hold, link_delay_holds, passes_at};
 
 use irt_base::limits::{FACTOR_TIME, GUARD_WINDOWS, MAX_DELAY};
 use irt_base::numbers::{DevId, PortNo};
 use irt_base::plants::{Link, Plant};
+use plant_rules::wiring::{rx_delay, tx_delay};
 
 /// Whether a time, in ns, and the guard after it fit into a cycle.
 pub fn fits_cycle(plant: &Plant, time: u64) -> bool
@@ -99,30 +100,4 @@ fn hop(plant: &Plant, from: DevId, from_port: PortNo, delay: u32, to: DevId, to_
     let tx = tx_delay(plant, from, from_port);
     let rx = rx_delay(plant, to, to_port);
     u64::from(tx) + u64::from(delay) + u64::from(rx)
-}
-
-/// The Tx delay of a port, 0 where it is not there, in ns.
-pub fn tx_delay(plant: &Plant, device: DevId, port: PortNo) -> u32
-    ensures { result ≡ tx_delay plant.now device.0 port.0 }
-{
-    match plant.devices.get(usize::from(device.0)) {
-        None => 0,
-        Some(found) => match found.ports.get(usize::from(port.0).saturating_sub(1)) {
-            None => 0,
-            Some(delays) => delays.tx,
-        },
-    }
-}
-
-/// The Rx delay of a port, 0 where it is not there, in ns.
-pub fn rx_delay(plant: &Plant, device: DevId, port: PortNo) -> u32
-    ensures { result ≡ rx_delay plant.now device.0 port.0 }
-{
-    match plant.devices.get(usize::from(device.0)) {
-        None => 0,
-        Some(found) => match found.ports.get(usize::from(port.0).saturating_sub(1)) {
-            None => 0,
-            Some(delays) => delays.rx,
-        },
-    }
 }

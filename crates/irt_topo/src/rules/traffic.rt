@@ -2,7 +2,8 @@
 
 ghost use Rattle.std.specs.Prelude.{◌≡◌, ◌==◌, take};
 ghost use Rattle.std.specs.List.{list_any};
-ghost use Rattle.irt_topo.specs.Rules.{is_within, has_two_ends, has_ranges, traffic_holds, app_holds, passes_at};
+ghost use Rattle.plant_rules.specs.Words.{is_within};
+ghost use Rattle.irt_topo.specs.Rules.{has_two_ends, has_ranges, traffic_holds, app_holds, passes_at};
 
 use super::demands::is_device;
 use irt_base::limits::{MAX_COUNT, MAX_EVERY, MAX_PARCEL, MAX_TRAFFIC, MIN_PARCEL};

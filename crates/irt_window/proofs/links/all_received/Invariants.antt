@@ -1,6 +1,6 @@
 use Rattle.std.proofs.Common.{ℕ, ◌<◌}
-use Rattle.irt_timing.specs.Tree.{IsReceiver}
-use Rattle.irt_timing.specs.Way.{Leaves}
+use Rattle.plan_rules.specs.Tree.{IsReceiver}
+use Rattle.plan_rules.specs.Way.{Leaves}
 use Rattle.irt_window.specs.Plans.{setup_in}
 use Rattle.irt_window.proofs.links.all_received.Given as goal
 

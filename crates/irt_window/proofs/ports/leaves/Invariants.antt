@@ -1,5 +1,5 @@
 use Rattle.std.proofs.Common.{ℕ, ◌<◌}
-use Rattle.irt_timing.specs.Way.{Leaves}
+use Rattle.plan_rules.specs.Way.{Leaves}
 use Rattle.irt_window.proofs.ports.leaves.Given as goal
 
 abbrev pub invariant-loop-port : goal.invariant-loop-port

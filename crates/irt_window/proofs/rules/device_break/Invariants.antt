@@ -1,5 +1,5 @@
 use Rattle.std.proofs.Common.{ℕ, ◌<◌}
-use Rattle.irt_timing.specs.Tree.{IsInTree}
+use Rattle.plan_rules.specs.Tree.{IsInTree}
 use Rattle.irt_window.specs.Plans.{setup_in}
 use Rattle.irt_window.proofs.rules.device_break.Given as goal
 

@@ -1,6 +1,6 @@
 use Rattle.std.proofs.Common.{arith, inl, inr, sym, subst, ℕ}
 use Rattle.std.proofs.lemmas.Bool.{cases_lt, cases_eq}
-use Rattle.irt_timing.specs.Tree.{IsInTree}
+use Rattle.plan_rules.specs.Tree.{IsInTree}
 use Rattle.irt_window.specs.Plans.{setup_in}
 use Rattle.irt_window.proofs.InTree.{off_devices}
 use Rattle.irt_window.proofs.rules.first_break.Goals as goal

@@ -1,6 +1,6 @@
 use Rattle.std.proofs.Common.{subst, ◌≡◌, Some}
 use Rattle.irt_base.specs.declared.blocks.Entry.{Entry}
-use Rattle.irt_timing.specs.Tree.{demand_of}
+use Rattle.plan_rules.specs.Tree.{demand_of}
 use Rattle.irt_window.proofs.InTree.{reached_test}
 use Rattle.irt_window.proofs.Places.{one_entry}
 use Rattle.irt_window.proofs.rules.is_reached.Goals as goal

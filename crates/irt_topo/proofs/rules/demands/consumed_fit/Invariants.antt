@@ -1,6 +1,6 @@
 use Rattle.std.proofs.Common.{◌≡◌, drop, nat_le}
 use Rattle.irt_base.specs.declared.limits.TheConstants.{MAX_WORDS}
-use Rattle.irt_topo.specs.Rules.{words_where, consumes}
+use Rattle.plant_rules.specs.Words.{words_where, consumes}
 use Rattle.irt_topo.proofs.rules.demands.consumed_fit.Given as goal
 
 abbrev pub invariant-loop-demand : goal.invariant-loop-demand
