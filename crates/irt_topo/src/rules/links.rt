@@ -2,6 +2,7 @@
 
 ghost use Rattle.std.specs.Prelude.{◌≡◌, ◌+◌, ◌<◌, ◌^◌, [], take};
 ghost use Rattle.std.specs.List.{list_any};
+ghost use Rattle.irt_base.specs.Wiring.{tx_delay, rx_delay};
 ghost use Rattle.plant_rules.specs.Words.{has_port, same_port, share_port, hop_there, hop_back};
 ghost use Rattle.irt_topo.specs.Rules.{fits_cycle, link_ends_hold, link_delay_holds, passes_at};
 
