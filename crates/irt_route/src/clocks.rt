@@ -7,8 +7,8 @@ ghost use Rattle.irt_route.specs.Clocks.{IsClockTreeOf, IsClockFault, IsGrownTre
 ghost use Rattle.irt_route.specs.NextHops.{IsWired};
 
 use crate::fault::ClockFault;
-use crate::trees::{Parents, add_walk, parent_at};
 use crate::next_hops::next_hops_to;
+use crate::trees::{Parents, add_walk, parent_at};
 use irt_base::cycles::budget_over;
 use irt_base::limits::{MAX_DEVICES, MAX_SEND, MAX_TIMEOUT};
 use irt_base::numbers::{DevId, PortNo};

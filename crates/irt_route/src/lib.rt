@@ -5,6 +5,7 @@ pub mod clocks;
 pub mod fault;
 pub mod laws;
 pub mod network;
+pub mod next_hops;
 pub mod routing;
 pub mod tables;
 #[cfg(test)]
@@ -12,4 +13,3 @@ mod tests;
 pub mod trees;
 pub mod unreached;
 pub mod walks;
-pub mod next_hops;

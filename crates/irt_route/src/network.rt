@@ -8,9 +8,9 @@ ghost use Rattle.irt_route.specs.Trees.{GrowsBy, IsBestStep};
 ghost use Rattle.irt_route.specs.Walks.{IsFoundWalk};
 ghost use Rattle.irt_route.specs.NextHops.{IsWired, IsNextHop, AreNextHops};
 
+use crate::next_hops::{NextHop, NextHops, next_hops_to};
 use crate::trees::{Parents, add_walk};
 use crate::walks::{Walk, walk_to};
-use crate::next_hops::{NextHop, NextHops, next_hops_to};
 use irt_base::limits::MAX_DEVICES;
 use irt_base::list::Items;
 use irt_base::memory::NoMemory;

@@ -134,7 +134,12 @@ fn first_port(
     None
 }
 
-fn leads(index: &LinkIndex, table: &[Option<NextHop>; MAX_DEVICES], device: DevId, port: PortNo) -> bool
+fn leads(
+    index: &LinkIndex,
+    table: &[Option<NextHop>; MAX_DEVICES],
+    device: DevId,
+    port: PortNo,
+) -> bool
     ensures { result ≡ leads (peer_in index.now) table.now device.0 port.0 }
 {
     match index.peer(device, port) {

@@ -6,8 +6,8 @@ ghost use Rattle.irt_route.specs.Trees.{parent_at, GrowsBy, IsBestStep, marked, 
 ghost use Rattle.irt_route.specs.Walks.{far_of};
 ghost use Rattle.irt_route.specs.NextHops.{IsWired, AreNextHops};
 
-use crate::walks::walk_to;
 use crate::next_hops::NextHops;
+use crate::walks::walk_to;
 use irt_base::limits::MAX_DEVICES;
 use irt_base::memory::NoMemory;
 use irt_base::numbers::{DevId, PortNo};

@@ -1,7 +1,7 @@
 use Rattle.std.proofs.Common.{sym, ◌∙◌}
 use Rattle.link_index.specs.Index.{peer_in}
 use Rattle.irt_route.proofs.NextHopLaws.{first_rounds, more_rounds, closed_rounds}
-use Rattle.irt_route.proofs.ways.next_hops_to.Goals as goal
+use Rattle.irt_route.proofs.next_hops.next_hops_to.Goals as goal
 
 pub loop-rounds-init : goal.loop-rounds-init
 loop-rounds-init c = first_rounds (peer_in c.args.index.now) c.args.target.0 c.first_table-table.result c.requires.there c.first_table-table.ensures
