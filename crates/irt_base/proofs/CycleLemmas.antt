@@ -16,17 +16,16 @@ pub shares_forward : (r s p q : ℕ) → IsRate r p → IsRate s q → r ≤ s �
 shares_forward r s p q rate other below is =
     let first : p - 1 < r = omega arith in
     let second : q - 1 < s = omega arith in
-    let least : s ≤ 16 = grind arith in
     let lesser : (p - 1) % r ≡ p - 1 = mod-eq_of_lt first in
     let greater : (q - 1) % s ≡ q - 1 = mod-eq_of_lt second in
-    (q - 1, omega arith, omega arith, omega arith)
+    (q - 1, omega arith, omega arith)
 
 pub shares_back : (r s p q : ℕ) → IsRate r p → IsRate s q → r ≤ s → SharesCycle r p s q → (p - 1) % r ≡ (q - 1) % r
 shares_back r s p q rate other below shared =
     let k = shared.0 in
-    ap (λ n. n % r) (mod_of_due k r p shared.2) ∙ mod-mod k r
+    ap (λ n. n % r) (mod_of_due k r p shared.1) ∙ mod-mod k r
     ∙ sym (mod-mod_of_dvd r k ((dvd_iff_mod-eq-zero r).1 (ratio_mod r s rate.0 other.0 below)))
-    ∙ sym (ap (λ n. n % r) (mod_of_due k s q shared.3))
+    ∙ sym (ap (λ n. n % r) (mod_of_due k s q shared.2))
 
 -- what the test of the code says, by which ratio is the lesser
 pub shares_test : (r s p q least : ℕ) → IsRate r p → IsRate s q → (r ≤ s) ⊎ (s ≤ r) → least ≡ min r s →
@@ -40,8 +39,8 @@ shares_test r s p q least rate other (inr below) is =
     let e : least ≡ s = is ∙ min-eq_right below in
     let same = ap (λ n. (p - 1) % n) e in
     let again = ap (λ n. (q - 1) % n) e in (
-      λ h. let w = shares_forward s r q p other rate below (sym again ∙ sym h ∙ same) in (w.0, w.1, w.3, w.2),
-      λ h. same ∙ sym (shares_back s r q p other rate below (h.0, h.1, h.3, h.2)) ∙ sym again,
+      λ h. let w = shares_forward s r q p other rate below (sym again ∙ sym h ∙ same) in (w.0, w.2, w.1),
+      λ h. same ∙ sym (shares_back s r q p other rate below (h.0, h.2, h.1)) ∙ sym again,
     )
 
 pub order_of : (r s : ℕ) → (r ≤ s) ⊎ (s ≤ r)

@@ -1,7 +1,14 @@
--- Hexadecimal digits from the last to the first.
-use Rattle.std.proofs.Common.{◌≡◌, ◌<◌, ℕ, zero, suc, ◌+◌, ◌/◌, ◌%◌, List, [], ◌∷◌, ◌++◌, length, drop, get_or, refl, sym, ◌∙◌, ap, arith, add-one, append_assoc, length-append, set}
+-- Hexadecimal digits from the last to the first, and decimal digits read.
+use Rattle.std.proofs.Common.{◌≡◌, ◌<◌, ℕ, zero, suc, ◌+◌, ◌/◌, ◌%◌, List, [], ◌∷◌, ◌++◌, length, drop, get_or, refl, sym, ◌∙◌, ap, arith, add-one, append_assoc, length-append, set, true, Some, Result, Ok, Err, subst}
 use Rattle.std.proofs.lemmas.List.{drop-set}
-use Rattle.irt_base.specs.Text.{hex_digits, hex_digit}
+use Rattle.std.specs.Prelude.{decimal, is_ok, MatchResult}
+use Rattle.std.proofs.lemmas.Option.{same_Some}
+use Rattle.std.specs.Result.{result_ok}
+use Rattle.std.specs.Str.{IsUtf8}
+use Rattle.std.specs.Str.Parse.{ParsesUnsigned}
+use Rattle.std.proofs.lemmas.Fmt.{IsAscii-decimal, parse-decimal}
+use Rattle.std.proofs.lemmas.Str.{IsUtf8-from_ascii}
+use Rattle.irt_base.specs.Text.{hex_digits, hex_digit, IsDecimal}
 
 pub hex_digits-suc : (count value : ℕ) → hex_digits (suc count) value ≡ hex_digits count (value / 16) ++ hex_digit (value % 16) ∷ []
 unfolding hex_digits
@@ -38,3 +45,18 @@ pub length-hex_digits : (count value : ℕ) → length (hex_digits count value) 
 unfolding hex_digits
 length-hex_digits zero value = refl
 length-hex_digits (suc count) value = length-append (hex_digits count (value / 16)) _ ∙ ap (λ n. n + 1) (length-hex_digits count (value / 16)) ∙ add-one count
+
+-- a number's text is UTF-8
+pub decimal_IsUtf8 : (text : List ℕ) (n : ℕ) → IsDecimal text n → IsUtf8 text
+decimal_IsUtf8 text n is = subst IsUtf8 (sym is.1) (IsUtf8-from_ascii (decimal n) (IsAscii-decimal n is.0))
+
+pub ok_of : {A E : Type 0} (P : A → Type 0) (Q : E → Type 0) (U : Type 0) (r : Result A E) → U → MatchResult r P (λ e. ¬ U × Q e) → is_ok r ≡ true
+ok_of P Q U (Ok x) u cases = refl
+ok_of P Q U (Err e) u cases = absurd (cases.0 u)
+
+pub read_back : {E : Type 0} (text : List ℕ) (n : ℕ) (r : Result ℕ E) → IsDecimal text n → ParsesUnsigned 64 10 text r → result_ok r ≡ Some n
+read_back text n r is parses = ap result_ok (parse-decimal 64 n text r is.0 is.0 is.1 parses)
+
+pub ok_fact : {A E : Type 0} (P : A → Type 0) (Q : E → Type 0) (r : Result A E) (x : A) → result_ok r ≡ Some x → MatchResult r P Q → P x
+ok_fact P Q (Ok y) x e fact = subst P (same_Some y x e) fact
+ok_fact P Q (Err f) x e fact = absurd cc

@@ -3,3 +3,4 @@ pub mod Periods
 pub mod Text
 pub mod Valid
 pub mod Wiring
+pub mod Words

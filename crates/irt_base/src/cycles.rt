@@ -54,7 +54,7 @@ pub fn guard(window: u32) -> u32
 }
 
 /// By how much a clock that follows PTCP over `hops` links may be off, in ns.
-pub fn budget_over(hops: u8, stamp: u32, drift: u32, send: u32, timeout: u16) -> u64
+pub fn budget_over(hops: u32, stamp: u32, drift: u32, send: u32, timeout: u16) -> u64
     requires stamps { stamp ≤ MAX_STAMP }
     requires drifts { drift ≤ MAX_DRIFT }
     requires sends { send ≤ MAX_SEND }

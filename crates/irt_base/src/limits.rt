@@ -95,7 +95,32 @@ pub const MIN_LOSS: u32 = 2;
 
 pub const MAX_LOSS: u32 = 65535;
 
-/// Greatest size of a plant file and of a device file, in bytes.
+/// Greatest size of a plant file, of a device file and of a world file, in bytes.
 pub const PLANT_FILE: usize = 1048576;
 
 pub const DEVICE_FILE: usize = 131072;
+
+pub const WORLD_FILE: usize = 67108864;
+
+/// The bytes of a word, the unit of a frame's data.
+pub const WORD_BYTES: usize = 8;
+
+/// Greatest number of cycles of a run.
+pub const MAX_CYCLES: u32 = 10000;
+
+/// Greatest error of a clock in a row of a world, either way, in ns.
+pub const MAX_ERROR: u32 = 1000000;
+
+/// Greatest size of a run: the rows of its journal, the words of its record, and the numbers of its world.
+pub const MAX_ROWS: u64 = 4000000;
+
+pub const MAX_RUN_WORDS: u64 = 16000000;
+
+pub const MAX_WORLD_NUMBERS: u64 = 16000000;
+
+/// In how many cycles, of those in which a frame is due, its last data are held by a consumer: in the
+/// one in which they come and the next two.
+pub const HOLD_CYCLES: u32 = 3;
+
+/// By how many cycles the plant of a free run may be ahead of an application.
+pub const MAX_SLIP: u32 = 8;

@@ -6,6 +6,7 @@ ghost use Rattle.std.specs.Option.{option_copied};
 use crate::memory::NoMemory;
 use std::alloc::Global;
 use std::marker::Model;
+use std::ops::DerefSlice;
 
 /// A growable list over `Vec`. A clause sees the list of its items, so two are equal in a clause
 /// where their items are.
@@ -30,6 +31,14 @@ impl<T> Items<T> {
         Items {
             items: Vec::new(alloc),
         }
+    }
+
+    /// An empty list with room for so many items.
+    pub fn with_capacity(alloc: Global, capacity: usize) -> Result<Items<T>, NoMemory>
+        ensures { IfOk result (λ made. made ≡ []) }
+    {
+        let items = Vec::with_capacity(alloc, capacity)?;
+        Ok(Items { items })
     }
 
     /// The list of a `Vec`'s items. It takes no memory.
@@ -76,6 +85,18 @@ impl<T> Items<T> {
     }
 }
 
+impl<T> DerefSlice for Items<T> {
+    type Elem = T;
+
+    ghost deref_gives = { λ s xs. xs ≡ s };
+
+    fn deref(&self) -> &[T]
+        ensures { result.now ≡ self.now }
+    {
+        self.as_slice()
+    }
+}
+
 impl<T: Drop> Items<T> {
     /// Adds an item at the end. Want of memory leaves the list as it was.
     pub fn push(&mut self, item: T) -> Result<(), NoMemory>
@@ -92,6 +113,13 @@ impl<T: Drop> Items<T> {
         ensures variant { IsSome result ↔ (0 < length self.old) }
     {
         self.items.pop()
+    }
+
+    /// Takes all items out. The room for them stays.
+    pub fn clear(&mut self)
+        ensures { self.new ≡ [] }
+    {
+        self.items.clear();
     }
 
     /// Writes an item over the one at an index.

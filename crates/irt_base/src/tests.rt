@@ -2,7 +2,7 @@ use crate::blocks::{Assignment, Period, PeriodBlock, PhasePair, PortPeriods, Sid
 use crate::cycles::{budget_over, cycle_length, due, guard, period, share, wire};
 use crate::list::Items;
 use crate::numbers::{FrameId, PortNo};
-use crate::texts::{print_decimal, print_frame, print_hex};
+use crate::texts::{print_decimal, print_frame, print_hex, read_decimal};
 use std::test::Fail;
 
 #[test]
@@ -42,6 +42,19 @@ fn texts(rt: HostRuntime) {
     assert_eq!(rt; out, *b"243281..............");
     assert_eq!(rt; print_decimal(&mut out, u64::MAX), 20);
     assert_eq!(rt; out, *b"18446744073709551615");
+    for (text, number) in [
+        ("0", Some(0)),
+        ("243281", Some(243281)),
+        ("18446744073709551615", Some(u64::MAX)),
+        ("18446744073709551616", None),
+        ("05", None),
+        ("+5", None),
+        ("-1", None),
+        ("1a", None),
+        ("", None),
+    ] {
+        assert_eq!(rt; read_decimal(text.as_bytes()), number, "{text}");
+    }
     let mut hex = [0; 16];
     print_hex(&mut hex, 0x0123_4567_89ab_cdef);
     assert_eq!(rt; hex, *b"0123456789abcdef");
@@ -82,7 +95,10 @@ fn periods_and_lists(rt: HostRuntime) -> Result<(), Fail> {
     };
     assert_eq!(rt; period(&block, PortNo(1), 17, Side::Tx), early);
     assert_eq!(rt; period(&block, PortNo(1), 17, Side::Rx), late);
-    let mut list = Items::from_vec(vec![in alloc; 5, 6, 7]?);
+    let mut list = Items::with_capacity(alloc, 3)?;
+    for item in [5, 6, 7] {
+        list.push(item)?;
+    }
     list.set(1, 9);
     assert_eq!(rt; list.get(1).copied(), Some(9));
     assert_eq!(rt; list.get(3).copied(), None);
@@ -90,8 +106,10 @@ fn periods_and_lists(rt: HostRuntime) -> Result<(), Fail> {
         list.try_copy(alloc)?.into_vec().as_slice(),
         [5, 9, 7].as_slice()
     );
+    assert_eq!(rt; list[2], 7);
     assert_eq!(rt; list.pop(), Some(7));
     assert_eq!(rt; list.len(), 2);
-    assert!(rt; !list.is_empty());
+    list.clear();
+    assert!(rt; list.is_empty());
     Ok(())
 }

@@ -1,10 +1,11 @@
 //! Texts of numbers.
 
-ghost use Rattle.std.specs.Prelude.{◌≡◌, ◌≤◌, ◌++◌, ◌*◌, ◌^◌, ◌<◌, length, take, drop, codes, decimal};
-ghost use Rattle.irt_base.specs.Text.{hex_digits, hex_digit, frame_text};
+ghost use Rattle.std.specs.Prelude.{◌≡◌, ◌≤◌, ◌++◌, ◌*◌, ◌^◌, ◌<◌, ◌↔◌, ℕ, length, take, drop, codes, decimal, IsTrue, Some, IfSome};
+ghost use Rattle.irt_base.specs.Text.{hex_digits, hex_digit, frame_text, IsDecimal};
 
 use crate::numbers::FrameId;
 use itoa::Buffer;
+use std::str::from_utf8;
 
 /// Writes the decimal digits of a number to the front of `out`, and gives how many there are.
 pub fn print_decimal(out: &mut [u8; 20], value: u64) -> usize
@@ -17,6 +18,32 @@ pub fn print_decimal(out: &mut [u8; 20], value: u64) -> usize
     let count = text.len();
     out[..count].copy_from_slice(text);
     count
+}
+
+/// Reads the decimal digits of a number: `0`, or digits of which the first isn't `0`. Any other text is
+/// none, and so is one whose number takes more than 64 bits. It takes no memory.
+pub fn read_decimal(text: &[u8]) -> Option<u64>
+    ensures found { IfSome result (λ n. IsDecimal text.now n) }
+    ensures only { (n : ℕ) → IsDecimal text.now n → result ≡ Some n }
+{
+    let number = parse_number(text)?;
+    is_decimal(text, number).then_some(number)
+}
+
+/// The number of a text, also where a plus or zeros stand first.
+fn parse_number(text: &[u8]) -> Option<u64>
+    ensures { (n : ℕ) → IsDecimal text.now n → result ≡ Some n }
+{
+    from_utf8(text).ok()?.parse().ok()
+}
+
+/// Whether a text is what is printed for a number.
+fn is_decimal(text: &[u8], number: u64) -> bool
+    ensures { IsTrue result ↔ (text.now ≡ decimal number) }
+{
+    let mut digits = [0; 20];
+    let count = print_decimal(&mut digits, number);
+    text == &digits[..count]
 }
 
 /// Writes the sixteen lower-case hexadecimal digits of a number.

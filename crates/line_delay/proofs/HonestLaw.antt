@@ -3,7 +3,8 @@ use Rattle.std.proofs.Common.{◌≡◌, ℕ, ◌*◌, List, [], ◌∷◌, ◌+
 use Rattle.std.proofs.lemmas.List.Elements.{All-nil, All-head, All-tail, All-push, All-drop, All-contains}
 use Rattle.line_delay.specs.declared.line.LineFault.{LineFault}
 use Rattle.line_delay.specs.Line.{half_round, accepted, IsLowerMedian}
-use Rattle.line_delay.specs.Honest.{IsNear, Stamps, IsHonest, after_all}
+use Rattle.irt_base.specs.Cycle.{IsNear}
+use Rattle.line_delay.specs.Honest.{Stamps, IsHonest, after_all}
 
 -- how near a half round is
 abbrev pub HalvesNear : Type 0

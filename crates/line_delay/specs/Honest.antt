@@ -1,10 +1,7 @@
 -- Responses whose stamps are near the truth.
 use Rattle.std.specs.Prelude.{◌≡◌, ℕ, ◌+◌, ◌≤◌, ℤ, pos, ◌+ℤ◌, ◌-ℤ◌, List, [], ◌∷◌}
+use Rattle.irt_base.specs.Cycle.{IsNear}
 use Rattle.line_delay.specs.Line.{half_round, accepted}
-
--- two numbers differ by at most so much
-abbrev pub IsNear : ℕ → ℕ → ℕ → Type 0
-IsNear error a b = (a ≤ b + error) × (b ≤ a + error)
 
 -- the four stamps of a response
 pub record Stamps : Type 0 where

@@ -1,8 +1,9 @@
 //! How near a measured delay is to the true one.
 
 ghost use Rattle.std.specs.Prelude.{◌≡◌, ℕ, ◌*◌, List, [], All, Ok};
+ghost use Rattle.irt_base.specs.Cycle.{IsNear};
 ghost use Rattle.line_delay.specs.Line.{half_round, IsLowerMedian};
-ghost use Rattle.line_delay.specs.Honest.{IsNear, Stamps, IsHonest, after_all};
+ghost use Rattle.line_delay.specs.Honest.{Stamps, IsHonest, after_all};
 
 /// The law of honest stamps. Where each stamp of each response differs from its true time by at most
 /// an error, each half round that is accepted differs from the link's delay by at most twice the

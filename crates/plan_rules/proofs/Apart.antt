@@ -21,7 +21,7 @@ use Rattle.plan_rules.specs.Expected.{IsFree, NeverCollides, LeavesFree}
 use Rattle.plan_rules.specs.Frames.{IsSending, IsBefore}
 use Rattle.plan_rules.specs.Plan.{IsPlan, setup_of}
 use Rattle.plan_rules.specs.Places.{IsAccepted}
-use Rattle.plan_rules.proofs.Sendings.{IsSent, sent_of, box_of, both_due, ends_before_orange}
+use Rattle.plan_rules.proofs.Sendings.{IsSent, sent_of, box_of, ends_before_orange}
 use Rattle.plan_rules.proofs.Times.{IsInBox, boxes_apart, windows_apart}
 
 swapped : {A B : Type 0} → A ⊎ B → B ⊎ A
@@ -58,7 +58,7 @@ same_cycle : (plant : Plant) (bundles : List Bundle) → IsAccepted plant bundle
 same_cycle plant bundles accepted p q d e a b s t rows cycles due also differ direction =
     let second = subst₂ (λ n m. IsSending (setup_of plant bundles) n m b.frame e t.window) (sym direction.device) (sym direction.port) t.sending in
     let due_here : IsDue a.cycle e.ratio e.phase = subst (λ n. IsDue n e.ratio e.phase) (sym cycles) also in
-    let shared = both_due a.cycle d.ratio d.phase e.ratio e.phase s.rate t.rate due due_here in
+    let shared = (a.cycle, due, due_here) in
     elim (clear plant bundles accepted a.device a.port a.frame b.frame d e s.window t.window differ s.sending second shared) [
       | inl before ↦ inl (follows plant bundles p q d e a b s t rows cycles before)
       | inr after ↦ inr (follows plant bundles q p e d b a t s (sym rows) (sym cycles) after)

@@ -2,7 +2,7 @@
 use Rattle.std.proofs.Common.{◌≡◌, ℕ, ◌+◌, ◌*◌, ◌%◌, ◌≤◌, List, sym, ◌∙◌, ap, subst, arith, All}
 use Rattle.std.specs.Prelude.{pos, ◌+ℤ◌, ◌≤ℤ◌}
 use Rattle.std.proofs.Math.Nat.{mod-mod_of_dvd, dvd_iff_mod-eq-zero}
-use Rattle.irt_base.specs.Cycle.{IsDue, SharesCycle, wire_time, cycle_time}
+use Rattle.irt_base.specs.Cycle.{IsDue, wire_time, cycle_time}
 use Rattle.irt_base.specs.Valid.{IsRate, IsRatio}
 use Rattle.irt_base.specs.declared.limits.TheConstants.{PHASES}
 use Rattle.irt_base.specs.declared.blocks.Bundle.{Bundle}
@@ -29,10 +29,6 @@ whole_ratio r is = grind arith
 -- a frame that is due in a cycle is due in the one of the first sixteen with its phase
 pub due_in_phase : (k r p : ℕ) → IsRate r p → IsDue k r p → IsDue (k % PHASES) r p
 due_in_phase k r p rate due = ap (λ n. n + 1) (mod-mod_of_dvd r k ((dvd_iff_mod-eq-zero r).1 (whole_ratio r rate.0))) ∙ due
-
--- two frames that are due in one cycle share one
-pub both_due : (k r p s q : ℕ) → IsRate r p → IsRate s q → IsDue k r p → IsDue k s q → SharesCycle r p s q
-both_due k r p s q first second due also = (k % PHASES, omega arith, due_in_phase k r p first due, due_in_phase k s q second also)
 
 pub devices_of : (plant : Plant) (bundles : List Bundle) → IsPlan plant bundles → IsAccepted plant bundles → HasDevices (setup_of plant bundles)
 devices_of plant bundles plan accepted device frame e at =

@@ -4,7 +4,8 @@ use Rattle.std.proofs.lemmas.List.Elements.{All-head, All-tail}
 use Rattle.ptcp_core.specs.declared.messages.SyncMsg.{SyncMsg}
 use Rattle.ptcp_core.specs.declared.messages.TheConstants.{TIME_END}
 use Rattle.ptcp_core.specs.Clocks.{made_msg, corrected, relayed}
-use Rattle.ptcp_core.specs.Honest.{IsNear, Relay, IsHonestRelay, relayed_by, travel_of}
+use Rattle.irt_base.specs.Cycle.{IsNear}
+use Rattle.ptcp_core.specs.Honest.{Relay, IsHonestRelay, relayed_by, travel_of}
 
 -- a message with one more hop and another correction
 abbrev pub with_hop : SyncMsg → ℕ → ℕ → SyncMsg

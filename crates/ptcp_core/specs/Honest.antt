@@ -1,15 +1,12 @@
 -- Clocks whose time stamps are near the truth.
 use Rattle.std.specs.Prelude.{◌≡◌, ℕ, ◌+◌, ◌*◌, ◌≤◌, ◌<◌, ℤ, pos, ◌+ℤ◌, ◌≤ℤ◌, List, [], ◌∷◌, Option, Some, None, option_and_then}
+use Rattle.irt_base.specs.Cycle.{IsNear}
 use Rattle.ptcp_core.specs.declared.messages.SyncMsg.{SyncMsg}
 use Rattle.ptcp_core.specs.declared.slave.SyncEvent.{SyncEvent}
 use Rattle.ptcp_core.specs.declared.slave.SyncEvent.TheVariants.{Sync, Tick}
 use Rattle.ptcp_core.specs.Clocks.{SlaveState, after_event, relayed}
 
--- two times differ by at most so much
-abbrev pub IsNear : ℕ → ℕ → ℕ → Type 0
-IsNear error a b = (a ≤ b + error) × (b ≤ a + error)
-
--- the same for offsets, which may be negative
+-- two offsets, which may be negative, differ by at most so much
 abbrev pub AreNear : ℕ → ℤ → ℤ → Type 0
 AreNear error a b = (a ≤ℤ (b +ℤ pos error)) × (b ≤ℤ (a +ℤ pos error))
 

@@ -1,9 +1,9 @@
 //! How near the clocks are to the truth.
 
 ghost use Rattle.std.specs.Prelude.{◌≡◌, ℕ, ℤ, ◌+◌, ◌*◌, List, All, length};
-ghost use Rattle.irt_base.specs.Cycle.{budget_time};
+ghost use Rattle.irt_base.specs.Cycle.{budget_time, IsNear};
 ghost use Rattle.ptcp_core.specs.Clocks.{fresh_slave, made_msg, state_of};
-ghost use Rattle.ptcp_core.specs.Honest.{IsNear, AreNear, SlaveClock, AreHonest, after_all, Relay, IsHonestRelay, relayed_by, travel_of};
+ghost use Rattle.ptcp_core.specs.Honest.{AreNear, SlaveClock, AreHonest, after_all, Relay, IsHonestRelay, relayed_by, travel_of};
 ghost use Rattle.ptcp_core.specs.declared.messages.SyncMsg.{SyncMsg as Message};
 ghost use Rattle.ptcp_core.specs.declared.slave.SyncEvent.{SyncEvent as Event};
 ghost use Rattle.ptcp_core.specs.declared.slave.SyncState.TheVariants as states;
