@@ -96,9 +96,9 @@ fn periods_and_lists(rt: HostRuntime) -> Result<(), Fail> {
     assert_eq!(rt; period(&block, PortNo(1), 17, Side::Tx), early);
     assert_eq!(rt; period(&block, PortNo(1), 17, Side::Rx), late);
     let mut list = Items::with_capacity(alloc, 3)?;
-    for item in [5, 6, 7] {
-        list.push(item)?;
-    }
+    list.push(5)?;
+    list.push(6)?;
+    list.push(7)?;
     list.set(1, 9);
     assert_eq!(rt; list.get(1).copied(), Some(9));
     assert_eq!(rt; list.get(3).copied(), None);

@@ -7,6 +7,7 @@ ghost use Rattle.irt_topo.specs.Clocks.{joins, hops_within, has_clock};
 ghost use Rattle.plant_rules.specs.Words.{is_within};
 ghost use Rattle.irt_topo.specs.Rules.{is_loss, is_sync_plan, follows_clock, clock_holds};
 
+use irt_base::cycles::budget_over;
 use irt_base::limits::{
     MAX_DEVICES, MAX_DRIFT, MAX_LOSS, MAX_SEND, MAX_STAMP, MAX_TIMEOUT, MIN_LOSS,
 };
@@ -70,26 +71,21 @@ fn has_clock(plant: &Plant, device: usize) -> bool
 }
 
 /// By how much a clock may be off that follows over so many links, in ns.
-fn budget(hops: u64, sync: SyncPlan) -> u64
-    requires near { hops ≤ 2 ^ 32 }
+fn budget(hops: u32, sync: SyncPlan) -> u64
     requires ranges { is_sync_plan sync ≡ true }
     ensures { result ≡ clock_budget sync hops }
 {
-    let line = hops * (4 * u64::from(sync.stamp) + 1);
-    let late = u64::from(sync.drift) * u64::from(sync.send) * u64::from(sync.timeout);
-    line + 2 * u64::from(sync.stamp) + late
+    budget_over(hops, sync.stamp, sync.drift, sync.send, sync.timeout)
 }
 
 /// The links of a shortest walk from device 0, where there is one of at most as many links as the window
 /// has ns. A budget is at least its links, so that a longer walk is of no use.
-fn hops_within(plant: &Plant, device: usize) -> Option<u64>
+fn hops_within(plant: &Plant, device: usize) -> Option<u32>
     requires { device < 256 }
-    ensures value { result ≡ hops_within plant.now device }
-    ensures small { IfSome result (λ hops. hops ≤ 2 ^ 32) }
+    ensures { result ≡ hops_within plant.now device }
 {
     let mut reached = first_reached();
-    let most = u64::from(plant.window) + 1;
-    for rounds in 0..most {
+    for rounds in 0..=plant.window {
         if reached[device] {
             return Some(rounds);
         }
