@@ -1,12 +1,25 @@
 -- When two frames share a cycle.
-use Rattle.std.proofs.Common.{◌≡◌, ◌<◌, ◌≤◌, ◌⊎◌, inl, inr, ℕ, ◌-◌, ◌%◌, sym, ◌∙◌, ap, arith, min}
+use Rattle.std.proofs.Common.{◌≡◌, ◌<◌, ◌≤◌, ◌⊎◌, inl, inr, ℕ, ◌+◌, ◌-◌, ◌%◌, sym, ◌∙◌, ap, arith, min}
 use Rattle.std.proofs.Math.Nat.{min-eq_left, min-eq_right, mod-mod_of_dvd, mod-eq_of_lt, mod-mod, dvd_iff_mod-eq-zero}
 use Rattle.irt_base.specs.Cycle.{IsDue, SharesCycle}
 use Rattle.irt_base.specs.Valid.{IsRate, IsRatio}
+use Rattle.irt_base.specs.declared.limits.TheConstants.{PHASES}
 
 -- a lesser ratio divides a greater one
 pub ratio_mod : (r s : ℕ) → IsRatio r → IsRatio s → r ≤ s → s % r ≡ 0
 ratio_mod r s p q below = grind arith
+
+-- a ratio divides the number of phases
+whole_ratio : (r : ℕ) → IsRatio r → PHASES % r ≡ 0
+whole_ratio r is = grind arith
+
+-- a frame that is due in a cycle is due in the one of the first sixteen with its phase
+pub due_in_phase : (k r p : ℕ) → IsRate r p → IsDue k r p → IsDue (k % PHASES) r p
+due_in_phase k r p rate due = ap (λ n. n + 1) (mod-mod_of_dvd r k ((dvd_iff_mod-eq-zero r).1 (whole_ratio r rate.0))) ∙ due
+
+-- two frames that share a cycle share one of the first sixteen
+pub shares_phase : (r p s q : ℕ) → IsRate r p → IsRate s q → SharesCycle r p s q → (k : ℕ) × (k < PHASES) × IsDue k r p × IsDue k s q
+shares_phase r p s q rate other (k, due, also) = (k % PHASES, omega arith, due_in_phase k r p rate due, due_in_phase k s q other also)
 
 pub mod_of_due : (k r p : ℕ) → IsDue k r p → p - 1 ≡ k % r
 mod_of_due k r p is = omega arith

@@ -32,7 +32,8 @@ use Rattle.plan_rules.proofs.Wires.{end_of, mutual_peers, found}
 use Rattle.plan_rules.proofs.AlongWay.{timed, live_parent, parent_sends}
 use Rattle.plan_rules.proofs.Held.{held_of, all_at}
 use Rattle.plan_rules.proofs.PortPeriods.{cycle_of, period_of_phase}
-use Rattle.plan_rules.proofs.Sendings.{devices_of, due_in_phase}
+use Rattle.irt_base.proofs.CycleLemmas.{due_in_phase}
+use Rattle.plan_rules.proofs.Sendings.{devices_of}
 
 -- a frame that starts in its window is there in time
 in_window_in_time : (origin lo hi hop wire window : ℕ) (error start end : ℤ) → IsInWindow start (pos origin) error (pos lo) (pos hi) → IsWithinWindow error (pos window) →

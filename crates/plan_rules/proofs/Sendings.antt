@@ -1,9 +1,9 @@
 -- What accepted blocks say of one frame on the wire.
 use Rattle.std.proofs.Common.{◌≡◌, ℕ, ◌+◌, ◌*◌, ◌%◌, ◌≤◌, List, sym, ◌∙◌, ap, subst, arith, All}
 use Rattle.std.specs.Prelude.{pos, ◌+ℤ◌, ◌≤ℤ◌}
-use Rattle.std.proofs.Math.Nat.{mod-mod_of_dvd, dvd_iff_mod-eq-zero}
 use Rattle.irt_base.specs.Cycle.{IsDue, wire_time, cycle_time}
-use Rattle.irt_base.specs.Valid.{IsRate, IsRatio}
+use Rattle.irt_base.specs.Valid.{IsRate}
+use Rattle.irt_base.proofs.CycleLemmas.{due_in_phase}
 use Rattle.irt_base.specs.declared.limits.TheConstants.{PHASES}
 use Rattle.irt_base.specs.declared.blocks.Bundle.{Bundle}
 use Rattle.irt_base.specs.declared.blocks.Entry.{Entry}
@@ -21,14 +21,6 @@ use Rattle.plan_rules.proofs.AlongWay.{in_step_of, HasDevices, timed}
 use Rattle.plan_rules.proofs.Held.{AreBlocks, held_of, all_at}
 use Rattle.plan_rules.proofs.PortPeriods.{HasCycle, cycle_of, period_of_phase}
 use Rattle.plan_rules.proofs.Times.{IsInBox, boxed, before_orange}
-
--- a ratio divides the number of phases
-whole_ratio : (r : ℕ) → IsRatio r → PHASES % r ≡ 0
-whole_ratio r is = grind arith
-
--- a frame that is due in a cycle is due in the one of the first sixteen with its phase
-pub due_in_phase : (k r p : ℕ) → IsRate r p → IsDue k r p → IsDue (k % PHASES) r p
-due_in_phase k r p rate due = ap (λ n. n + 1) (mod-mod_of_dvd r k ((dvd_iff_mod-eq-zero r).1 (whole_ratio r rate.0))) ∙ due
 
 pub devices_of : (plant : Plant) (bundles : List Bundle) → IsPlan plant bundles → IsAccepted plant bundles → HasDevices (setup_of plant bundles)
 devices_of plant bundles plan accepted device frame e at =

@@ -7,6 +7,7 @@ use Rattle.std.proofs.lemmas.List.Elements.{All-cons, Contains-get_or}
 use Rattle.std.proofs.lemmas.List.Kept.{AllPairs-cons}
 use Rattle.std.proofs.lemmas.List.Sorted.{IsPermutation-sym, All-permutation}
 use Rattle.irt_base.specs.Cycle.{guard_time}
+use Rattle.irt_base.proofs.CycleLemmas.{shares_phase}
 use Rattle.irt_base.specs.declared.limits.TheConstants.{PHASES}
 use Rattle.window_sweep.specs.declared.slot.SendSlot.{SendSlot}
 use Rattle.window_sweep.specs.Slots.{AreSendSlots, IsSendSlot, IsClear, Share}
@@ -105,7 +106,7 @@ abbrev pub Apart : ℕ → SendSlot → SendSlot → Type 0
 Apart window a b = Share a b → IsClear window a b
 
 turn : (window : ℕ) (a b : SendSlot) → Apart window a b → Apart window b a
-turn window a b h share = elim (h (share.0, share.1, share.3, share.2)) [ inl first ↦ inr first | inr second ↦ inl second ]
+turn window a b h share = elim (h (share.0, share.2, share.1)) [ inl first ↦ inr first | inr second ↦ inl second ]
 
 -- the rule over members, and over places
 clear_pairs : (window : ℕ) (slots : List SendSlot) → AreSendSlots slots → AreClear window slots → AllPairs (Apart window) slots
@@ -135,13 +136,17 @@ sweeps_pass window slots valid rise pairs k phase =
     (λ i j d below inside first second.
     let a = get_or slots i d in
     let b = get_or slots j d in
-    let share : Share a b = (k, phase, eqb-true _ _ first, eqb-true _ _ second) in
+    let share : Share a b = (k, eqb-true _ _ first, eqb-true _ _ second) in
     clear_side window a b (valid i d (omega arith)) (valid j d inside) (rise i j d (omega arith) inside) (pairs i j d below inside share))
 
 pass_sweeps : (window : ℕ) (slots : List SendSlot) → All IsSendSlot slots → ((k : ℕ) → k < PHASES → steps window k None slots ≡ true) → AllPairs (Apart window) slots
 pass_sweeps window slots valid h i j d below inside share =
-    let pass = (steps_pass window share.0 None slots valid (h share.0 share.1)).1 i j d below inside in
-    inl (leb-true _ _ (pass (eq-eqb _ _ share.2) (eq-eqb _ _ share.3)))
+    let a = get_or slots i d in
+    let b = get_or slots j d in
+    let (k, phase, first, second) =
+    shares_phase a.ratio a.phase b.ratio b.phase (valid i d (omega arith)).rate (valid j d inside).rate share in
+    let pass = (steps_pass window k None slots valid (h k phase)).1 i j d below inside in
+    inl (leb-true _ _ (pass (eq-eqb _ _ first) (eq-eqb _ _ second)))
 
 pub sorted_valid : (slots sorted : List SendSlot) → AreSendSlots slots → IsPermutation slots sorted → All IsSendSlot sorted
 sorted_valid slots sorted valid shuffle = All-permutation IsSendSlot slots sorted shuffle valid.each
