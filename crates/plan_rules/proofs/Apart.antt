@@ -38,7 +38,7 @@ clear plant bundles accepted device port f g d e v w differ first second shared 
       | inr (inl less) ↦ accepted.apart (record { device = record { 0 = device }; port = port; frame = f; other = g }) d e v w less first second shared
       | inr (inr more) ↦
           swapped (accepted.apart (record { device = record { 0 = device }; port = port; frame = g; other = f }) e d w v more second first
-          (shared.0, shared.1, shared.3, shared.2))
+          (shared.0, shared.2, shared.1))
     ]
 
 -- by their windows, the first frame is off the wire before the second one starts
@@ -58,7 +58,7 @@ same_cycle : (plant : Plant) (bundles : List Bundle) → IsAccepted plant bundle
 same_cycle plant bundles accepted p q d e a b s t rows cycles due also differ direction =
     let second = subst₂ (λ n m. IsSending (setup_of plant bundles) n m b.frame e t.window) (sym direction.device) (sym direction.port) t.sending in
     let due_here : IsDue a.cycle e.ratio e.phase = subst (λ n. IsDue n e.ratio e.phase) (sym cycles) also in
-    let shared = (a.cycle, due, due_here) in
+    let shared : SharesCycle d.ratio d.phase e.ratio e.phase = (a.cycle, due, due_here) in
     elim (clear plant bundles accepted a.device a.port a.frame b.frame d e s.window t.window differ s.sending second shared) [
       | inl before ↦ inl (follows plant bundles p q d e a b s t rows cycles before)
       | inr after ↦ inr (follows plant bundles q p e d b a t s (sym rows) (sym cycles) after)
