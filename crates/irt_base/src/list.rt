@@ -7,6 +7,7 @@ use crate::memory::NoMemory;
 use std::alloc::Global;
 use std::marker::Model;
 use std::ops::DerefSlice;
+use std::slice::Iter;
 
 /// A growable list over `Vec`. A clause sees the list of its items, so two are equal in a clause
 /// where their items are.
@@ -94,6 +95,23 @@ impl<T> DerefSlice for Items<T> {
         ensures { result.now ≡ self.now }
     {
         self.as_slice()
+    }
+}
+
+impl<'a, T> IntoIterator for &'a Items<T> {
+    ghost use Rattle.std.specs.Prelude.{◌≡◌, ◌^◌, ◌<◌, length};
+    ghost use Rattle.std.specs.Iterator.Runs.{EveryRun, ItemsMapTo};
+    ghost use Rattle.std.specs.Slice.Iter.{iter_rest, iter_steps};
+
+    type Item = &'a T;
+
+    type IntoIter = Iter<'a, T>;
+
+    ghost into_iter_gives = { λ v it. (iter_rest it ≡ v.now) × (length (iter_rest it) < 2 ^ 64)
+        × EveryRun (iter_steps {A = T}) (λ p. ItemsMapTo p (λ x. x.now) (iter_rest p.from)) };
+
+    fn into_iter(self) -> Iter<'a, T> {
+        self.as_slice().iter()
     }
 }
 

@@ -107,6 +107,11 @@ fn periods_and_lists(rt: HostRuntime) -> Result<(), Fail> {
         [5, 9, 7].as_slice()
     );
     assert_eq!(rt; list[2], 7);
+    let mut sum = 0u32;
+    for item in &list {
+        sum = sum.wrapping_add(*item);
+    }
+    assert_eq!(rt; sum, 21);
     assert_eq!(rt; list.pop(), Some(7));
     assert_eq!(rt; list.len(), 2);
     list.clear();
