@@ -21,6 +21,7 @@ use Rattle.plan_rules.specs.Expected.{IsFree, NeverCollides, LeavesFree}
 use Rattle.plan_rules.specs.Frames.{IsSending, IsBefore}
 use Rattle.plan_rules.specs.Plan.{IsPlan, setup_of}
 use Rattle.plan_rules.specs.Places.{IsAccepted}
+use Rattle.plan_rules.proofs.Kept as kept
 use Rattle.plan_rules.proofs.Sendings.{IsSent, sent_of, box_of, ends_before_orange}
 use Rattle.plan_rules.proofs.Times.{IsInBox, boxes_apart, windows_apart}
 
@@ -35,9 +36,9 @@ clear : (plant : Plant) (bundles : List Bundle) → IsAccepted plant bundles →
 clear plant bundles accepted device port f g d e v w differ first second shared =
     elim (cases_order f g) [
       | inl same ↦ absurd (differ same)
-      | inr (inl less) ↦ accepted.apart (record { device = record { 0 = device }; port = port; frame = f; other = g }) d e v w less first second shared
+      | inr (inl less) ↦ kept.apart plant bundles accepted (record { device = record { 0 = device }; port = port; frame = f; other = g }) d e v w less first second shared
       | inr (inr more) ↦
-          swapped (accepted.apart (record { device = record { 0 = device }; port = port; frame = g; other = f }) e d w v more second first
+          swapped (kept.apart plant bundles accepted (record { device = record { 0 = device }; port = port; frame = g; other = f }) e d w v more second first
           (shared.0, shared.2, shared.1))
     ]
 

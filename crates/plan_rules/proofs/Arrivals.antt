@@ -27,7 +27,8 @@ use Rattle.plan_rules.specs.Expected.{DeliversInTime, TakesArrivals}
 use Rattle.plan_rules.specs.Frames.{IsForwarded}
 use Rattle.plan_rules.specs.Headers.{is_relative}
 use Rattle.plan_rules.specs.Plan.{IsPlan, setup_of}
-use Rattle.plan_rules.specs.Places.{IsAccepted}
+use Rattle.plan_rules.specs.Places.{IsAccepted, place_of}
+use Rattle.plan_rules.proofs.Kept as kept
 use Rattle.plan_rules.proofs.Wires.{end_of, mutual_peers, found}
 use Rattle.plan_rules.proofs.AlongWay.{timed, live_parent, parent_sends}
 use Rattle.plan_rules.proofs.Held.{held_of, all_at}
@@ -98,7 +99,7 @@ provider_entry : (plant : Plant) (bundles : List Bundle) → IsAccepted plant bu
     (own : Entry) × (entry_at (setup_of plant bundles) demand.provider.0 frame ≡ Some own)
 provider_entry plant bundles accepted frame demand is =
     some_of (entry_at (setup_of plant bundles) demand.provider.0 frame)
-    ((accepted.trees (record { device = record { 0 = demand.provider.0 }; port = 0; frame = frame; other = 0 })).present demand is (inl refl))
+    ((kept.trees plant bundles accepted (place_of demand.provider.0 0 frame)).present demand is (inl refl))
 
 -- two entries of one frame have one length and are due in the same cycles
 pub record AreAlike (d e : Entry) : Type 0 where
@@ -110,8 +111,8 @@ alike : (plant : Plant) (bundles : List Bundle) → IsAccepted plant bundles →
     entry_at (setup_of plant bundles) u frame ≡ Some d → entry_at (setup_of plant bundles) v frame ≡ Some e → AreAlike d e
 alike plant bundles accepted frame u v demand d e is first second =
     let (own, at) = provider_entry plant bundles accepted frame demand is in
-    let here = accepted.demands (record { device = record { 0 = u }; port = 0; frame = frame; other = 0 }) demand own d is at first in
-    let there = accepted.demands (record { device = record { 0 = v }; port = 0; frame = frame; other = 0 }) demand own e is at second in
+    let here = kept.demands plant bundles accepted (place_of u 0 frame) demand own d is at first in
+    let there = kept.demands plant bundles accepted (place_of v 0 frame) demand own e is at second in
     record { length = there.length ∙ sym here.length; ratio = there.ratio ∙ sym here.ratio; phase = there.phase ∙ sym here.phase }
 
 -- the receiver's entry of a frame that arrives
@@ -127,7 +128,7 @@ met_by : (plant : Plant) (bundles : List Bundle) → IsPlan plant bundles → Is
     IsMet plant bundles from sender port device gate frame
 met_by plant bundles plan accepted from sender port device gate frame at leaves leads =
     let setup = setup_of plant bundles in
-    let (demand, is_demand, tree) = (accepted.trees (record { device = record { 0 = sender }; port = 0; frame = frame; other = 0 })).each from at in
+    let (demand, is_demand, tree) = (kept.trees plant bundles accepted (place_of sender 0 frame)).each from at in
     let r = tree.sent port leaves in
     let same_frame : demand.frame.0 ≡ frame = eqb-true demand.frame.0 frame (found (λ (x : Demand). x.frame.0 == frame) (IsDemand plant) plant.demands demand plan.rules.demands is_demand).0 in
     let one = same_Some (end_of r.receiver r.e.rx_port) (end_of device gate) (sym r.leads ∙ leads) in
@@ -157,7 +158,7 @@ takes_arrivals plant bundles plan accepted world ranges a row from in_cycle is o
     let due : IsDue a.cycle m.e.ratio m.e.phase = subst₂ (IsDue a.cycle) (sym m.alike.ratio) (sym m.alike.phase) is.due in
     let forwarded : IsForwarded setup a.device a.frame m.e is.hop t.window =
     record { parent = is.sender; port = is.port; stands = m.stands; comes = m.comes; hops = is.hops; sends = t.has } in
-    let red = accepted.received (record { device = record { 0 = a.device }; port = a.port; frame = a.frame; other = 0 }) m.e is.hop t.window blocks.bundle
+    let red = kept.received plant bundles accepted (place_of a.device a.port a.frame) m.e is.hop t.window blocks.bundle
     (a.cycle % PHASES) cycle.rx forwarded m.port_is blocks.held (omega arith) (due_in_phase a.cycle m.e.ratio m.e.phase held.valid.rate due)
     (period_of_phase blocks.bundle.periods a.port a.cycle Rx ∙ cycle.receives) in
     let origin = a.cycle * cycle_time plant.factor in
@@ -182,6 +183,6 @@ takes_arrivals plant bundles plan accepted world ranges a row from in_cycle is o
           subst (λ n. (local_time origin (row.error a.device) a.start +ℤ pos n) ≤ℤ pos m.e.send_offset) (sym blocks.header.bridge)
           (closes_in_time origin t.window.lo t.window.hi is.hop plant.window blocks.d.bmax m.e.send_offset (row.error t.window.anchor) (row.error a.device)
           is.sent a.start t.inside t.in_step own is.comes
-          (accepted.forwards (record { device = record { 0 = a.device }; port = 0; frame = a.frame; other = 0 }) m.e is.hop t.window blocks.d forwarded
+          (kept.forwards plant bundles accepted (place_of a.device 0 a.frame) m.e is.hop t.window blocks.d forwarded
           (absolute_of plant a.device blocks.d blocks.is_device (sym blocks.header.mode ∙ absolute)) leaves blocks.is_device));
     }

@@ -12,7 +12,8 @@ use Rattle.irt_base.specs.declared.plants.Plant.{Plant}
 use Rattle.plan_rules.specs.Way.{entry_at}
 use Rattle.plan_rules.specs.Headers.{IsHeader}
 use Rattle.plan_rules.specs.Plan.{IsPlan, setup_of}
-use Rattle.plan_rules.specs.Places.{IsAccepted}
+use Rattle.plan_rules.specs.Places.{IsAccepted, place_of}
+use Rattle.plan_rules.proofs.Kept as kept
 use Rattle.plan_rules.proofs.Wires.{found, mapped}
 
 pub all_at : {A : Type 0} (P : A → Type 0) (xs : List A) (k : ℕ) (x : A) → All P xs → slice_get xs k ≡ Some x → P x
@@ -63,7 +64,7 @@ blocks_of plant bundles plan accepted device b held =
       held = held;
       is_device = is_device;
       valid = all_at IsBundle bundles device b plan.blocks held;
-      header = accepted.header (record { device = record { 0 = device }; port = 0; frame = 0; other = 0 }) d first b is_device at_first held;
+      header = kept.header plant bundles accepted (place_of device 0 0) d first b is_device at_first held;
     }
 
 -- an entry has its device's blocks, is valid, and is its frame's

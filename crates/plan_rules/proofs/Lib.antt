@@ -2,11 +2,13 @@ pub mod AlongWay
 pub mod Apart
 pub mod Arrivals
 pub mod Held
+pub mod Kept
 pub mod OneWay
 pub mod PortPeriods
 pub mod Sendings
 pub mod StartWindow
 pub mod Times
+pub mod Verdicts
 pub mod Wires
 mod TimingExample
 mod WorkedExample

@@ -19,7 +19,8 @@ use Rattle.plant_rules.specs.Words.{is_within, has_port}
 use Rattle.plant_rules.specs.Meets.{HasPort, IsLink, MeetsRules}
 use Rattle.plan_rules.specs.Periods.{AreOrdered}
 use Rattle.plan_rules.specs.Plan.{IsPlan}
-use Rattle.plan_rules.specs.Places.{IsAccepted}
+use Rattle.plan_rules.specs.Places.{IsAccepted, place_of}
+use Rattle.plan_rules.proofs.Kept as kept
 use Rattle.plan_rules.proofs.Wires.{begins, ends, end_of, found, mapped}
 use Rattle.plan_rules.proofs.Held.{AreBlocks, each_at, some_at}
 
@@ -86,7 +87,7 @@ cycle_of plant bundles plan accepted device port v q k blocks leads =
       rx = rx;
       sends = sends;
       receives = receives;
-      ordered = accepted.order (record { device = record { 0 = device }; port = port; frame = 0; other = 0 }) (k % PHASES) tx rx (record {
+      ordered = kept.order plant bundles accepted (place_of device port 0) (k % PHASES) tx rx (record {
         bundle = blocks.bundle;
         held = blocks.held;
         from_one = low;

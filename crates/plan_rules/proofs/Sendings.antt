@@ -16,7 +16,8 @@ use Rattle.plan_rules.specs.SendWindow.{SendWindow, slack_time}
 use Rattle.plan_rules.specs.Occupation.{Occupation, IsOccupation}
 use Rattle.plan_rules.specs.Frames.{IsSending}
 use Rattle.plan_rules.specs.Plan.{IsPlan, setup_of}
-use Rattle.plan_rules.specs.Places.{IsAccepted}
+use Rattle.plan_rules.specs.Places.{IsAccepted, place_of}
+use Rattle.plan_rules.proofs.Kept as kept
 use Rattle.plan_rules.proofs.AlongWay.{in_step_of, HasDevices, timed}
 use Rattle.plan_rules.proofs.Held.{AreBlocks, held_of, all_at}
 use Rattle.plan_rules.proofs.PortPeriods.{HasCycle, cycle_of, period_of_phase}
@@ -47,7 +48,7 @@ sent_of plant bundles plan accepted world ranges o is =
     let t = timed setup plan.rules (devices_of plant bundles plan accepted) is.row range o.cycle o.frame o.device o.start is.starts is.live
     (record { entry = is.entry; stands = is.stands; port = o.port; leaves = is.leaves }) in
     let held = held_of plant bundles plan accepted o.device o.frame is.entry is.stands in
-    let tree = (accepted.trees (record { device = record { 0 = o.device }; port = 0; frame = o.frame; other = 0 })).each is.entry is.stands in
+    let tree = (kept.trees plant bundles accepted (place_of o.device 0 o.frame)).each is.entry is.stands in
     let receiver = tree.2.sent o.port is.leaves in
     let cycle = cycle_of plant bundles plan accepted o.device o.port receiver.receiver receiver.e.rx_port o.cycle held.blocks receiver.leads in
     let sending : IsSending setup o.device o.port o.frame is.entry t.window = record { stands = is.stands; leaves = is.leaves; sends = t.has } in
@@ -61,7 +62,7 @@ sent_of plant bundles plan accepted world ranges o is =
       rate = held.valid.rate;
       blocks = held.blocks;
       cycle = cycle;
-      red = (accepted.sent (record { device = record { 0 = o.device }; port = o.port; frame = o.frame; other = 0 }) is.entry t.window held.blocks.bundle
+      red = (kept.sent plant bundles accepted (place_of o.device o.port o.frame) is.entry t.window held.blocks.bundle
           (o.cycle % PHASES) cycle.tx sending held.blocks.held (omega arith) (due_in_phase o.cycle is.entry.ratio is.entry.phase held.valid.rate is.due)
           (period_of_phase held.blocks.bundle.periods o.port o.cycle Tx ∙ cycle.sends)).1;
     }

@@ -6,6 +6,7 @@ pub mod Occupation
 pub mod Periods
 pub mod Plan
 pub mod Places
+pub mod Rules
 pub mod SendWindow
 pub mod Tree
 pub mod Way

@@ -12,6 +12,23 @@ pub struct Place {
     pub other: u16,
 }
 
+impl Place {
+    ghost use Rattle.std.specs.Prelude.{◌≡◌};
+    ghost use Rattle.plan_rules.specs.Places.{place_of};
+
+    /// A place without another frame.
+    pub fn new(device: DevId, port: u8, frame: u16) -> Place
+        ensures { result ≡ place_of device.0 port frame }
+    {
+        Place {
+            device,
+            port,
+            frame,
+            other: 0,
+        }
+    }
+}
+
 /// The first rule that fails (1 to 15) and its least place.
 #[derive(Clone, Copy, Debug, PartialEq, Eq)]
 pub struct Reject {
