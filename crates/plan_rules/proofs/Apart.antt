@@ -22,7 +22,7 @@ use Rattle.plan_rules.specs.Frames.{IsSending, IsBefore}
 use Rattle.plan_rules.specs.Plan.{IsPlan, setup_of}
 use Rattle.plan_rules.specs.Places.{IsAccepted}
 use Rattle.plan_rules.proofs.Kept as kept
-use Rattle.plan_rules.proofs.Sendings.{IsSent, sent_of, box_of, ends_before_orange}
+use Rattle.plan_rules.proofs.Sendings.{IsOnWire, sent_of, box_of, ends_before_orange}
 use Rattle.plan_rules.proofs.Times.{IsInBox, boxes_apart, windows_apart}
 
 swapped : {A B : Type 0} → A ⊎ B → B ⊎ A
@@ -43,7 +43,7 @@ clear plant bundles accepted device port f g d e v w differ first second shared 
     ]
 
 -- by their windows, the first frame is off the wire before the second one starts
-follows : (plant : Plant) (bundles : List Bundle) (p q : WorldRow) (d e : Entry) (a b : Occupation) → (s : IsSent plant bundles p d a) → (t : IsSent plant bundles q e b) →
+follows : (plant : Plant) (bundles : List Bundle) (p q : WorldRow) (d e : Entry) (a b : Occupation) → (s : IsOnWire plant bundles p d a) → (t : IsOnWire plant bundles q e b) →
     p ≡ q → a.cycle ≡ b.cycle → IsBefore plant.window d s.window t.window → a.end ≤ℤ b.start
 follows plant bundles p q d e a b s t rows cycles before =
     let again = subst₂ (λ n (r : WorldRow). IsInWindow b.start (pos (n * cycle_time plant.factor)) (r.error t.window.anchor) (pos t.window.lo) (pos t.window.hi)) (sym cycles) (sym rows) t.inside in
@@ -54,7 +54,7 @@ follows plant bundles p q d e a b s t rows cycles before =
 
 -- two frames of one cycle and direction
 same_cycle : (plant : Plant) (bundles : List Bundle) → IsAccepted plant bundles → (p q : WorldRow) (d e : Entry) (a b : Occupation) →
-    (s : IsSent plant bundles p d a) → (t : IsSent plant bundles q e b) → p ≡ q → a.cycle ≡ b.cycle → IsDue a.cycle d.ratio d.phase → IsDue b.cycle e.ratio e.phase →
+    (s : IsOnWire plant bundles p d a) → (t : IsOnWire plant bundles q e b) → p ≡ q → a.cycle ≡ b.cycle → IsDue a.cycle d.ratio d.phase → IsDue b.cycle e.ratio e.phase →
     a.frame ≢ b.frame → IsSameDirection a b → IsDisjoint a b
 same_cycle plant bundles accepted p q d e a b s t rows cycles due also differ direction =
     let second = subst₂ (λ n m. IsSending (setup_of plant bundles) n m b.frame e t.window) (sym direction.device) (sym direction.port) t.sending in
@@ -119,7 +119,7 @@ frame_before period window k orange red error e from until ends same free = omeg
 
 -- the sender's period of a cycle is one
 one_period : (plant : Plant) (bundles : List Bundle) (world : List WorldRow) (row : WorldRow) (e : Entry) (o : Occupation) (from until : ℤ) →
-    (s : IsSent plant bundles row e o) → (f : IsFree plant bundles world o.device o.port from until) → o.cycle ≡ f.cycle → s.cycle.tx.orange ≡ f.tx.orange
+    (s : IsOnWire plant bundles row e o) → (f : IsFree plant bundles world o.device o.port from until) → o.cycle ≡ f.cycle → s.cycle.tx.orange ≡ f.tx.orange
 one_period plant bundles world row e o from until s f same =
     let blocks : s.blocks.bundle ≡ f.bundle = same_Some s.blocks.bundle f.bundle (sym s.blocks.held ∙ f.held) in
     let here : period_at f.bundle.periods o.port f.cycle Tx ≡ Some s.cycle.tx =

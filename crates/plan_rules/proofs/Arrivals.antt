@@ -17,15 +17,17 @@ use Rattle.irt_base.specs.declared.plants.Mode.{Mode}
 use Rattle.irt_base.specs.declared.plants.Mode.TheVariants.{Absolute, Relative}
 use Rattle.irt_base.specs.declared.plants.Demand.{Demand}
 use Rattle.irt_base.specs.declared.plants.Plant.{Plant}
-use Rattle.plant_rules.specs.Meets.{IsDemand}
-use Rattle.plan_rules.specs.World.{WorldRow}
+use Rattle.plant_rules.specs.Meets.{IsDemand, MeetsRules}
+use Rattle.plan_rules.specs.World.{WorldRow, IsInStep}
 use Rattle.plan_rules.proofs.StartWindow.{IsInWindow}
 use Rattle.plan_rules.specs.World.{IsWithinWindow}
 use Rattle.plan_rules.specs.Way.{entry_at, Leaves, IsAbsolute, IsParent, IsInRange}
 use Rattle.plan_rules.specs.Tree.{demand_of}
-use Rattle.plan_rules.specs.Expected.{DeliversInTime, TakesArrivals}
+use Rattle.plan_rules.specs.Arrival.{Arrival, IsArrival}
+use Rattle.plan_rules.specs.Expected.{IsTaken, DeliversInTime, TakesArrivals}
 use Rattle.plan_rules.specs.Frames.{IsForwarded}
 use Rattle.plan_rules.specs.Headers.{is_relative}
+use Rattle.plan_rules.specs.Network.{AreAlike, IsMet}
 use Rattle.plan_rules.specs.Plan.{IsPlan, setup_of}
 use Rattle.plan_rules.specs.Places.{IsAccepted, place_of}
 use Rattle.plan_rules.proofs.Kept as kept
@@ -90,24 +92,26 @@ absolute_mode Relative is = absurd (cc)
 absolute_of : (plant : Plant) (device : ℕ) (d : Device) → slice_get plant.devices device ≡ Some d → is_relative d.mode ≡ false → IsAbsolute plant device
 absolute_of plant device d is absolute = ap (option_map (λ (x : Device). x.mode)) is ∙ ap Some (absolute_mode d.mode absolute)
 
-some_of : {A : Type 0} (o : Option A) → IsSome o → (x : A) × (o ≡ Some x)
+pub some_of : {A : Type 0} (o : Option A) → IsSome o → (x : A) × (o ≡ Some x)
 some_of None is = absurd (cc)
 some_of (Some x) is = (x, refl)
 
+-- the demand that is found for a frame is the frame's, and valid
+pub demand_found : (plant : Plant) → MeetsRules plant → (frame : ℕ) (demand : Demand) → demand_of plant frame ≡ Some demand →
+    (demand.frame.0 ≡ frame) × IsDemand plant demand
+demand_found plant rules frame demand is =
+    let (named, valid) = found (λ (x : Demand). x.frame.0 == frame) (IsDemand plant) plant.demands demand rules.demands is in
+    (eqb-true demand.frame.0 frame named, valid)
+
 -- a frame's entry at its provider
-provider_entry : (plant : Plant) (bundles : List Bundle) → IsAccepted plant bundles → (frame : ℕ) (demand : Demand) → demand_of plant frame ≡ Some demand →
+pub provider_entry : (plant : Plant) (bundles : List Bundle) → IsAccepted plant bundles → (frame : ℕ) (demand : Demand) → demand_of plant frame ≡ Some demand →
     (own : Entry) × (entry_at (setup_of plant bundles) demand.provider.0 frame ≡ Some own)
 provider_entry plant bundles accepted frame demand is =
     some_of (entry_at (setup_of plant bundles) demand.provider.0 frame)
     ((kept.trees plant bundles accepted (place_of demand.provider.0 0 frame)).present demand is (inl refl))
 
 -- two entries of one frame have one length and are due in the same cycles
-pub record AreAlike (d e : Entry) : Type 0 where
-  pub length : e.data_length ≡ d.data_length
-  pub ratio : e.ratio ≡ d.ratio
-  pub phase : e.phase ≡ d.phase
-
-alike : (plant : Plant) (bundles : List Bundle) → IsAccepted plant bundles → (frame u v : ℕ) (demand : Demand) (d e : Entry) → demand_of plant frame ≡ Some demand →
+pub alike : (plant : Plant) (bundles : List Bundle) → IsAccepted plant bundles → (frame u v : ℕ) (demand : Demand) (d e : Entry) → demand_of plant frame ≡ Some demand →
     entry_at (setup_of plant bundles) u frame ≡ Some d → entry_at (setup_of plant bundles) v frame ≡ Some e → AreAlike d e
 alike plant bundles accepted frame u v demand d e is first second =
     let (own, at) = provider_entry plant bundles accepted frame demand is in
@@ -116,21 +120,14 @@ alike plant bundles accepted frame u v demand d e is first second =
     record { length = there.length ∙ sym here.length; ratio = there.ratio ∙ sym here.ratio; phase = there.phase ∙ sym here.phase }
 
 -- the receiver's entry of a frame that arrives
-pub record IsMet (plant : Plant) (bundles : List Bundle) (from : Entry) (sender port device gate frame : ℕ) : Type 0 where
-  pub e : Entry
-  pub stands : entry_at (setup_of plant bundles) device frame ≡ Some e
-  pub port_is : e.rx_port ≡ gate
-  pub alike : AreAlike from e
-  pub comes : IsParent (setup_of plant bundles) frame device e sender port
-
-met_by : (plant : Plant) (bundles : List Bundle) → IsPlan plant bundles → IsAccepted plant bundles → (from : Entry) (sender port device gate frame : ℕ) →
+pub met_by : (plant : Plant) (bundles : List Bundle) → IsPlan plant bundles → IsAccepted plant bundles → (from : Entry) (sender port device gate frame : ℕ) →
     entry_at (setup_of plant bundles) sender frame ≡ Some from → Leaves from port → peer_of plant sender port ≡ Some (end_of device gate) →
-    IsMet plant bundles from sender port device gate frame
+    IsMet (setup_of plant bundles) from sender port device gate frame
 met_by plant bundles plan accepted from sender port device gate frame at leaves leads =
     let setup = setup_of plant bundles in
     let (demand, is_demand, tree) = (kept.trees plant bundles accepted (place_of sender 0 frame)).each from at in
     let r = tree.sent port leaves in
-    let same_frame : demand.frame.0 ≡ frame = eqb-true demand.frame.0 frame (found (λ (x : Demand). x.frame.0 == frame) (IsDemand plant) plant.demands demand plan.rules.demands is_demand).0 in
+    let same_frame = (demand_found plant plan.rules frame demand is_demand).0 in
     let one = same_Some (end_of r.receiver r.e.rx_port) (end_of device gate) (sym r.leads ∙ leads) in
     let same_device : r.receiver ≡ device = ap (λ (x : DevId × PortNo). x.0.0) one in
     let same_port : r.e.rx_port ≡ gate = ap (λ (x : DevId × PortNo). x.1.0) one in
@@ -143,11 +140,11 @@ met_by plant bundles plan accepted from sender port device gate frame at leaves 
       comes = record { received = r.received; sent = (from, at, leaves); leads = leads ∙ ap (λ n. Some (end_of device n)) (sym same_port) };
     }
 
-pub takes_arrivals : (plant : Plant) (bundles : List Bundle) → IsPlan plant bundles → IsAccepted plant bundles → (world : List WorldRow) →
-    All (IsInRange (setup_of plant bundles)) world → TakesArrivals plant bundles world
-takes_arrivals plant bundles plan accepted world ranges a row from in_cycle is own =
+pub takes_arrival : (plant : Plant) (bundles : List Bundle) → IsPlan plant bundles → IsAccepted plant bundles → (row : WorldRow) →
+    IsInRange (setup_of plant bundles) row → (from : Entry) (a : Arrival) → IsArrival (setup_of plant bundles) row from a →
+    IsInStep plant row a.device → IsTaken plant bundles row from a
+takes_arrival plant bundles plan accepted row range from a is own =
     let setup = setup_of plant bundles in
-    let range = all_at (IsInRange setup) world a.cycle row ranges in_cycle in
     let t = timed setup plan.rules (devices_of plant bundles plan accepted) row range a.cycle a.frame is.sender is.sent is.starts is.live
     (record { entry = from; stands = is.stands; port = is.port; leaves = is.leaves }) in
     let m = met_by plant bundles plan accepted from is.sender is.port a.device a.port a.frame is.stands is.leaves is.leads in
@@ -186,3 +183,8 @@ takes_arrivals plant bundles plan accepted world ranges a row from in_cycle is o
           (kept.forwards plant bundles accepted (place_of a.device 0 a.frame) m.e is.hop t.window blocks.d forwarded
           (absolute_of plant a.device blocks.d blocks.is_device (sym blocks.header.mode ∙ absolute)) leaves blocks.is_device));
     }
+
+pub takes_arrivals : (plant : Plant) (bundles : List Bundle) → IsPlan plant bundles → IsAccepted plant bundles → (world : List WorldRow) →
+    All (IsInRange (setup_of plant bundles)) world → TakesArrivals plant bundles world
+takes_arrivals plant bundles plan accepted world ranges a row from in_cycle is own =
+    takes_arrival plant bundles plan accepted row (all_at (IsInRange (setup_of plant bundles)) world a.cycle row ranges in_cycle) from a is own

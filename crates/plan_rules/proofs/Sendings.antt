@@ -28,7 +28,7 @@ devices_of plant bundles plan accepted device frame e at =
     let held = held_of plant bundles plan accepted device frame e at in (held.blocks.d, held.blocks.is_device)
 
 -- what is known of one frame on the wire
-pub record IsSent (plant : Plant) (bundles : List Bundle) (row : WorldRow) (e : Entry) (o : Occupation) : Type 0 where
+pub record IsOnWire (plant : Plant) (bundles : List Bundle) (row : WorldRow) (e : Entry) (o : Occupation) : Type 0 where
   pub window : SendWindow
   pub sending : IsSending (setup_of plant bundles) o.device o.port o.frame e window
   pub anchor_in_step : IsInStep plant row window.anchor
@@ -41,7 +41,7 @@ pub record IsSent (plant : Plant) (bundles : List Bundle) (row : WorldRow) (e : 
   pub red : window.hi + wire_time e.data_length + slack_time plant.window o.device window.anchor ≤ cycle.tx.orange
 
 pub sent_of : (plant : Plant) (bundles : List Bundle) → IsPlan plant bundles → IsAccepted plant bundles → (world : List WorldRow) →
-    All (IsInRange (setup_of plant bundles)) world → (o : Occupation) → (is : IsOccupation (setup_of plant bundles) world o) → IsSent plant bundles is.row is.entry o
+    All (IsInRange (setup_of plant bundles)) world → (o : Occupation) → (is : IsOccupation (setup_of plant bundles) world o) → IsOnWire plant bundles is.row is.entry o
 sent_of plant bundles plan accepted world ranges o is =
     let setup = setup_of plant bundles in
     let range = all_at (IsInRange setup) world o.cycle is.row ranges is.in_cycle in
@@ -67,14 +67,14 @@ sent_of plant bundles plan accepted world ranges o is =
           (period_of_phase held.blocks.bundle.periods o.port o.cycle Tx ∙ cycle.sends)).1;
     }
 
-pub box_of : (plant : Plant) (bundles : List Bundle) (row : WorldRow) (e : Entry) (o : Occupation) → IsSent plant bundles row e o →
+pub box_of : (plant : Plant) (bundles : List Bundle) (row : WorldRow) (e : Entry) (o : Occupation) → IsOnWire plant bundles row e o →
     IsInBox (cycle_time plant.factor) plant.window o.cycle o.start o.end
 box_of plant bundles row e o s =
     boxed (cycle_time plant.factor) plant.window o.cycle s.window.lo s.window.hi (wire_time e.data_length) (row.error s.window.anchor) o.start o.end
     s.inside s.anchor_in_step s.ends (omega (arith, s.red, s.cycle.ordered.sending.orange, s.cycle.ordered.guard))
 
 -- the frame's end and the sender's orange period
-pub ends_before_orange : (plant : Plant) (bundles : List Bundle) (row : WorldRow) (e : Entry) (o : Occupation) → (s : IsSent plant bundles row e o) →
+pub ends_before_orange : (plant : Plant) (bundles : List Bundle) (row : WorldRow) (e : Entry) (o : Occupation) → (s : IsOnWire plant bundles row e o) →
     o.end ≤ℤ (pos (o.cycle * cycle_time plant.factor + s.cycle.tx.orange) +ℤ row.error o.device)
 ends_before_orange plant bundles row e o s =
     subst (λ x. x ≤ℤ (pos (o.cycle * cycle_time plant.factor + s.cycle.tx.orange) +ℤ row.error o.device)) (sym s.ends)

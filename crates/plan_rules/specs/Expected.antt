@@ -11,6 +11,7 @@ use Rattle.plan_rules.specs.World.{WorldRow, IsInStep}
 use Rattle.plan_rules.specs.Way.{entry_at, Leaves, IsInRange}
 use Rattle.plan_rules.specs.Occupation.{Occupation, IsOccupation, AreOccupations, AreApart}
 use Rattle.plan_rules.specs.Arrival.{Arrival, IsArrival, Delivery, IsDelivery, IsInTime}
+use Rattle.plan_rules.specs.Once.{StartsOnce, SendsExactly, ReachesExactly, LivesUndisturbed}
 use Rattle.plan_rules.specs.Plan.{setup_of}
 
 -- A stretch of true time, in ns, that a sender's port leaves to parcels: in a cycle in which the sender is in
@@ -69,6 +70,10 @@ pub record IsSafeOver (plant : Plant) (bundles : List Bundle) (world : List Worl
   pub free : LeavesFree plant bundles world
   pub in_time : DeliversInTime plant bundles world
   pub taken : TakesArrivals plant bundles world
+  pub sent : SendsExactly (setup_of plant bundles) world
+  pub reached : ReachesExactly (setup_of plant bundles) world
+  pub starts : (k : ℕ) (row : WorldRow) → slice_get world k ≡ Some row → StartsOnce (setup_of plant bundles) row k
+  pub live : (k : ℕ) (row : WorldRow) → slice_get world k ≡ Some row → LivesUndisturbed (setup_of plant bundles) row
 
 -- What holds over every table with bridge delays in their ranges.
 abbrev pub IsSafe : Plant → List Bundle → Type 0

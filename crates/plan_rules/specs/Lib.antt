@@ -2,7 +2,9 @@ pub mod Arrival
 pub mod Expected
 pub mod Frames
 pub mod Headers
+pub mod Network
 pub mod Occupation
+pub mod Once
 pub mod Periods
 pub mod Plan
 pub mod Places

@@ -1,0 +1,94 @@
+-- What a network that plays accepted blocks rests on, cycle by cycle.
+use Rattle.std.specs.Prelude.{◌≡◌, ◌↔◌, ℕ, ◌+◌, ◌*◌, ◌≤◌, Some, ℤ, pos, ◌+ℤ◌, ◌≤ℤ◌, IsBitSet}
+use Rattle.irt_base.specs.Cycle.{IsDue, wire_time, cycle_time}
+use Rattle.irt_base.specs.Valid.{IsEntry}
+use Rattle.irt_base.specs.Wiring.{peer_of}
+use Rattle.irt_base.specs.declared.limits.TheConstants.{MAX_PORTS}
+use Rattle.irt_base.specs.declared.blocks.Entry.{Entry}
+use Rattle.irt_base.specs.declared.plants.Demand.{Demand}
+use Rattle.irt_base.specs.declared.plants.Plant.{Plant}
+use Rattle.plan_rules.specs.World.{WorldRow, IsInStep, IsUncut}
+use Rattle.plan_rules.specs.Way.{Setup, entry_at, Leaves, IsParent, IsLive, IsStart, IsInRange}
+use Rattle.plan_rules.specs.Tree.{demand_of, Consumes}
+use Rattle.plan_rules.specs.Arrival.{Arrival, IsArrival}
+use Rattle.plan_rules.specs.Once.{ExactlyOne}
+
+-- ---- entries
+
+-- What an entry of a device is: valid, of its frame, which is demanded; and kept by consumers alone.
+pub record IsDemandedEntry (setup : Setup) (device frame : ℕ) (e : Entry) : Type 0 where
+  pub demand : Demand
+  pub demanded : demand_of setup.plant frame ≡ Some demand
+  pub kept : IsBitSet e.tx 0 ↔ Consumes demand device
+  pub named : e.frame.0 ≡ frame
+  pub valid : IsEntry e
+  pub ports : (port : ℕ) → Leaves e port → port ≤ MAX_PORTS
+
+abbrev pub EntriesAreDemanded : Setup → Type 0
+EntriesAreDemanded setup = (device frame : ℕ) (e : Entry) → entry_at setup device frame ≡ Some e → IsDemandedEntry setup device frame e
+
+-- one length, due in the same cycles
+pub record AreAlike (d e : Entry) : Type 0 where
+  pub length : e.data_length ≡ d.data_length
+  pub ratio : e.ratio ≡ d.ratio
+  pub phase : e.phase ≡ d.phase
+
+-- The entries of a frame at any two devices are alike.
+abbrev pub EntriesAreAlike : Setup → Type 0
+EntriesAreAlike setup = (frame u v : ℕ) (d e : Entry) → entry_at setup u frame ≡ Some d → entry_at setup v frame ≡ Some e → AreAlike d e
+
+-- ---- starts and arrivals
+
+-- A device sends a frame by a port in cycle k from this time on: what an occupation says of its start, in one row.
+pub record IsSent (setup : Setup) (row : WorldRow) (k device port frame : ℕ) (start : ℤ) : Type 0 where
+  pub entry : Entry
+  pub stands : entry_at setup device frame ≡ Some entry
+  pub due : IsDue k entry.ratio entry.phase
+  pub leaves : Leaves entry port
+  pub live : IsLive setup row frame device
+  pub starts : IsStart setup row k frame device start
+
+-- What is sent over a link that is not cut arrives at its other end, once.
+abbrev pub ArrivesOnce : Setup → Type 0
+ArrivesOnce setup = (row : WorldRow) (k device port frame far gate : ℕ) (sent : ℤ) → (is : IsSent setup row k device port frame sent) →
+    IsUncut setup.plant row device port → peer_of setup.plant device port ≡ Some (record { 0 = far }, record { 0 = gate }) →
+    ExactlyOne (λ (start : ℤ). IsArrival setup row is.entry (record { cycle = k; device = far; port = gate; frame = frame; start = start }))
+
+-- The receiver's entry of what a sender's port leads to its own: it has the frame from there, and is alike.
+pub record IsMet (setup : Setup) (from : Entry) (sender port device gate frame : ℕ) : Type 0 where
+  pub e : Entry
+  pub stands : entry_at setup device frame ≡ Some e
+  pub port_is : e.rx_port ≡ gate
+  pub comes : IsParent setup frame device e sender port
+  pub alike : AreAlike from e
+
+-- Whatever arrives is met.
+abbrev pub MeetsArrivals : Setup → Type 0
+MeetsArrivals setup = (row : WorldRow) (from : Entry) (a : Arrival) (is : IsArrival setup row from a) →
+    IsMet setup from is.sender is.port a.device a.port a.frame
+
+-- A device in step sends on what arrives, due, by each port of its entry, and not before it arrives.
+abbrev pub SendsOn : Setup → Type 0
+SendsOn setup = (row : WorldRow) → IsInRange setup row → (from : Entry) (a : Arrival) (e : Entry) (port : ℕ) → IsArrival setup row from a →
+    IsInStep setup.plant row a.device → entry_at setup a.device a.frame ≡ Some e → Leaves e port →
+    (start : ℤ) × IsSent setup row a.cycle a.device port a.frame start × (a.start ≤ℤ start)
+
+-- ---- times
+
+-- A time that belongs to cycle k, in true ns: from a window before the cycle begins to a window before it ends. With
+-- cycles of 1000000 and a window of 1000 those of cycle 1 are 999000 to 1999000.
+pub record IsNear (plant : Plant) (k : ℕ) (at : ℤ) : Type 0 where
+  pub low : pos (k * cycle_time plant.factor) ≤ℤ (at +ℤ pos plant.window)
+  pub high : (at +ℤ pos plant.window) ≤ℤ pos ((k + 1) * cycle_time plant.factor)
+
+-- a frame of so many bytes that is on the wire from a start on, near its cycle from begin to end
+pub record StaysNear (plant : Plant) (k bytes : ℕ) (start : ℤ) : Type 0 where
+  pub begin : IsNear plant k start
+  pub end : IsNear plant k (start +ℤ pos (wire_time bytes))
+
+-- What is sent and what arrives stays near its cycle.
+pub record AllNear (setup : Setup) : Type 0 where
+  pub sent : (row : WorldRow) → IsInRange setup row → (k device port frame : ℕ) (start : ℤ) → (is : IsSent setup row k device port frame start) →
+      StaysNear setup.plant k is.entry.data_length start
+  pub arrives : (row : WorldRow) → IsInRange setup row → (from : Entry) (a : Arrival) → IsArrival setup row from a →
+      StaysNear setup.plant a.cycle from.data_length a.start
