@@ -56,8 +56,11 @@ stays plant k bytes start (low, high) = record {
 no_shift : (start : ℤ) → start ≡ (start +ℤ pos 0)
 no_shift start = omega (arith, ints)
 
-relay_start : (sent came : ℤ) (hop bridge : ℕ) → came ≡ (sent +ℤ pos hop) → came ≤ℤ (sent +ℤ pos (hop + bridge))
+relay_start : (sent came : ℤ) (hop bridge : ℕ) → came ≡ (sent +ℤ pos hop) → (sent +ℤ pos (hop + bridge)) ≡ (came +ℤ pos bridge)
 relay_start sent came hop bridge is = omega (arith, ints)
+
+after_bridge : (came : ℤ) (bridge : ℕ) → came ≤ℤ (came +ℤ pos bridge)
+after_bridge came bridge = omega (arith, ints)
 
 anchor_start : (origin offset bridge : ℕ) (error local came : ℤ) → (pos origin +ℤ error +ℤ local) ≡ came → (local +ℤ pos bridge) ≤ℤ pos offset →
     came ≤ℤ (pos (origin + offset) +ℤ error)
@@ -152,19 +155,26 @@ module _ (plant : Plant) (bundles : List Bundle) (plan : IsPlan plant bundles) (
             ap (λ (b : Bundle). b.frames.relative) own ∙ (blocks.header.mode ∙ mode_of a.device blocks.d blocks.is_device absolute) in
             let again : taken.e ≡ e = same_Some taken.e e (sym taken.stands ∙ at) in
             let early = taken.early not_relative (port, subst (λ x. Leaves x port) (sym again) leaves) in
-            let offset : taken.e.send_offset ≡ e.send_offset = ap (λ (x : Entry). x.send_offset) again in (
-              start,
-              sent start (by_offset a.device e at (inr (absolute, (port, leaves)))),
-              anchor_start (a.cycle * cycle_time plant.factor) e.send_offset taken.bundle.global.bridge (row.error a.device) taken.local a.start taken.local_time
-                  (subst (λ n. (taken.local +ℤ pos taken.bundle.global.bridge) ≤ℤ pos n) offset early),
-            )
+            let offset : taken.e.send_offset ≡ e.send_offset = ap (λ (x : Entry). x.send_offset) again in
+            record {
+              start = start;
+              sent = sent start (by_offset a.device e at (inr (absolute, (port, leaves))));
+              absolute = λ is. refl;
+              relative = λ not. absurd (not absolute);
+              later = anchor_start (a.cycle * cycle_time plant.factor) e.send_offset taken.bundle.global.bridge (row.error a.device) taken.local a.start taken.local_time
+                  (subst (λ n. (taken.local +ℤ pos taken.bundle.global.bridge) ≤ℤ pos n) offset early);
+            }
         | inr relative ↦
-            let start = is.sent +ℤ pos (is.hop + row.bridge a.device a.frame) in
-            let other : ¬ IsAnchor setup a.device e = no_anchor a.device e comes.received relative in (
-              start,
-              sent start (by_arrival a.device e is.sender is.port is.hop is.sent at other comes is.starts is.hops),
-              relay_start is.sent a.start is.hop (row.bridge a.device a.frame) is.comes,
-            )
+            let start = a.start +ℤ pos (row.bridge a.device a.frame) in
+            let other : ¬ IsAnchor setup a.device e = no_anchor a.device e comes.received relative in
+            record {
+              start = start;
+              sent = sent start (subst (IsStart setup row a.cycle a.frame a.device) (relay_start is.sent a.start is.hop (row.bridge a.device a.frame) is.comes)
+                  (by_arrival a.device e is.sender is.port is.hop is.sent at other comes is.starts is.hops));
+              absolute = λ is. absurd (relative is);
+              relative = λ not. refl;
+              later = after_bridge a.start (row.bridge a.device a.frame);
+            }
       ]
     where
       no_anchor : (device : ℕ) (e : Entry) → 1 ≤ e.rx_port → ¬ IsAbsolute plant device → ¬ IsAnchor setup device e

@@ -8,7 +8,7 @@ use Rattle.irt_base.specs.declared.blocks.Entry.{Entry}
 use Rattle.irt_base.specs.declared.plants.Demand.{Demand}
 use Rattle.irt_base.specs.declared.plants.Plant.{Plant}
 use Rattle.plan_rules.specs.World.{WorldRow, IsInStep, IsUncut}
-use Rattle.plan_rules.specs.Way.{Setup, entry_at, Leaves, IsParent, IsLive, IsStart, IsInRange}
+use Rattle.plan_rules.specs.Way.{Setup, entry_at, Leaves, IsAbsolute, IsParent, IsLive, IsStart, IsInRange}
 use Rattle.plan_rules.specs.Tree.{demand_of, Consumes}
 use Rattle.plan_rules.specs.Arrival.{Arrival, IsArrival}
 use Rattle.plan_rules.specs.Once.{ExactlyOne}
@@ -67,11 +67,19 @@ abbrev pub MeetsArrivals : Setup → Type 0
 MeetsArrivals setup = (row : WorldRow) (from : Entry) (a : Arrival) (is : IsArrival setup row from a) →
     IsMet setup from is.sender is.port a.device a.port a.frame
 
--- A device in step sends on what arrives, due, by each port of its entry, and not before it arrives.
+-- A device sends on by a port what has begun to arrive, and not before: by its own offset in absolute time, else
+-- its bridge delay later.
+pub record IsSentOn (setup : Setup) (row : WorldRow) (a : Arrival) (e : Entry) (port : ℕ) : Type 0 where
+  pub start : ℤ
+  pub sent : IsSent setup row a.cycle a.device port a.frame start
+  pub absolute : IsAbsolute setup.plant a.device → start ≡ (pos (a.cycle * cycle_time setup.plant.factor + e.send_offset) +ℤ row.error a.device)
+  pub relative : ¬ IsAbsolute setup.plant a.device → start ≡ (a.start +ℤ pos (row.bridge a.device a.frame))
+  pub later : a.start ≤ℤ start
+
+-- A device in step sends on what arrives by each port of its entry.
 abbrev pub SendsOn : Setup → Type 0
 SendsOn setup = (row : WorldRow) → IsInRange setup row → (from : Entry) (a : Arrival) (e : Entry) (port : ℕ) → IsArrival setup row from a →
-    IsInStep setup.plant row a.device → entry_at setup a.device a.frame ≡ Some e → Leaves e port →
-    (start : ℤ) × IsSent setup row a.cycle a.device port a.frame start × (a.start ≤ℤ start)
+    IsInStep setup.plant row a.device → entry_at setup a.device a.frame ≡ Some e → Leaves e port → IsSentOn setup row a e port
 
 -- ---- times
 
