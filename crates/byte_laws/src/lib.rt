@@ -1,0 +1,3 @@
+//! What the codecs of bytes stand on: the words that bytes spell, and what it is that reading and
+//! spelling are one.
+#![tactic(auto)]
