@@ -1,5 +1,5 @@
 -- A block is a codec if its fields are read to their end, and a whole input is a value and nothing else.
-use Rattle.std.proofs.Common.{◌≡◌, ℕ, ◌+◌, ◌-◌, ◌^◌, ◌<◌, ◌≤◌, Bool, true, false, not, eqb, nat_lt, ◌==◌, List, [], ◌∷◌, ◌++◌, length, take, drop, slice_index, Result, Ok, Err, refl, sym, ap, subst, ◌∙◌, append_assoc, arith, length-drop, drop-drop}
+use Rattle.std.proofs.Common.{◌≡◌, ℕ, ◌+◌, ◌-◌, ◌^◌, ◌<◌, ◌≤◌, Bool, true, false, cond, not, eqb, nat_lt, ◌==◌, List, [], ◌∷◌, ◌++◌, length, take, drop, slice_index, Result, Ok, Err, refl, sym, ap, subst, ◌∙◌, append_assoc, arith, length-drop, drop-drop}
 use Rattle.std.specs.Prelude.{IfOk}
 use Rattle.std.proofs.lemmas.Bool.{ltb-false, le-ltb, eqb-true, and_parts}
 use Rattle.std.proofs.lemmas.List.{take_at, drop_at, take-append-drop, length-append, length-take, append-nil, nil_from_length}
@@ -7,11 +7,14 @@ use Rattle.irt_block.specs.declared.fault.BlockFault.{BlockFault}
 use Rattle.irt_block.specs.declared.fault.BlockKind.TheVariants as kinds
 use Rattle.irt_block.specs.declared.extent.Extent.{Extent}
 use Rattle.irt_block.specs.declared.header.BlockId.{BlockId}
-use Rattle.irt_block.specs.Reading.{◌>>=◌, Reader, Gives, fault_at, input_of, missing_of, spelled, number_in, ended_at, finished_at}
+use Rattle.irt_block.specs.Reading.{◌>>=◌, Reader, Gives, IsSure, fault_at, input_of, missing_of, spelled, number_in, ended_at, finished_at}
 use Rattle.irt_block.specs.Header.{header_bytes, block_bytes, header_at, inner_of, open_at, block_at, whole_of}
-use Rattle.irt_block.proofs.Numbers.{IsBytes, IsBytes-drop, IsBytes-take, two_bytes, length-spelled, number_in-spelled, number_in-lt, spelled-number_in}
-use Rattle.irt_block.proofs.Steps.{bind_ok, guard_not, guard_so, guard_past, ok_is, Takes, Takes-then}
-use Rattle.irt_block.proofs.Codec.{Codec, pair_read}
+use Rattle.byte_laws.specs.Spelling.{IsBytes, ReadingIsSpelling}
+use Rattle.byte_laws.proofs.Spelling.{one_spelling}
+use Rattle.byte_laws.proofs.Words.{IsBytes-drop, IsBytes-take}
+use Rattle.irt_block.proofs.Numbers.{length-spelled, number_in-spelled, number_in-lt, spelled-number_in}
+use Rattle.irt_block.proofs.Steps.{bind_ok, guard_not, guard_so, guard_past, done, ok_is, Takes, Takes-then, failed, sure_ok, sure_err, sure_missing, sure_if, sure_bind, sure_map, sure_along}
+use Rattle.irt_block.proofs.Codec.{Codec, pair_read, pair_sure}
 
 -- ---- the header
 
@@ -58,8 +61,8 @@ header_takes id extent bytes size fits e =
     let is : 4 + number_in 2 (drop 2 bytes) ≡ size = g5.1 in
     let below : number_in 2 (drop 2 bytes) < 65536 = number_in-lt 2 (drop 2 bytes) (IsBytes-drop 2 bytes fits) in
     let size_is : number_in 2 (drop 2 bytes) ≡ size - 4 = omega arith in
-    let first : take 2 bytes ≡ spelled 2 id.kind = sym (spelled-number_in 2 two_bytes bytes (omega arith) fits) ∙ ap (spelled 2) kind in
-    let second : take 2 (drop 2 bytes) ≡ spelled 2 (size - 4) = sym (spelled-number_in 2 two_bytes (drop 2 bytes) (omega (arith, length-drop 2 bytes)) (IsBytes-drop 2 bytes fits)) ∙ ap (spelled 2) size_is in
+    let first : take 2 bytes ≡ spelled 2 id.kind = sym (spelled-number_in 2 bytes (omega arith) fits) ∙ ap (spelled 2) kind in
+    let second : take 2 (drop 2 bytes) ≡ spelled 2 (size - 4) = sym (spelled-number_in 2 (drop 2 bytes) (omega (arith, length-drop 2 bytes)) (IsBytes-drop 2 bytes fits)) ∙ ap (spelled 2) size_is in
     let third : slice_index bytes 4 ∷ slice_index bytes 5 ∷ drop 6 bytes ≡ id.high ∷ id.low ∷ drop 6 bytes = ap (λ (h : ℕ). h ∷ slice_index bytes 5 ∷ drop 6 bytes) high ∙ ap (λ (l : ℕ). id.high ∷ l ∷ drop 6 bytes) low in
     let whole : take 2 bytes ++ (take 2 (drop 2 bytes) ++ slice_index bytes 4 ∷ slice_index bytes 5 ∷ drop 6 bytes) ≡ spelled 2 id.kind ++ (spelled 2 (size - 4) ++ id.high ∷ id.low ∷ drop 6 bytes) =
     ap (λ (x : List ℕ). x ++ (take 2 (drop 2 bytes) ++ slice_index bytes 4 ∷ slice_index bytes 5 ∷ drop 6 bytes)) first
@@ -123,12 +126,13 @@ pub record Body (A : Type 0) : Type 1 where
   pub read : Reader A
   pub takes : (extent : Extent) (bytes : List ℕ) (x : A × List ℕ) → IsBytes bytes → read extent bytes ≡ Ok x → Takes bytes (spell x.0) x.1 × Fits x.0
   pub again : (extent : Extent) (x : A) → Fits x → read extent (spell x) ≡ Ok (x, [])
+  pub sure : (extent : Extent) (bytes : List ℕ) → IsSure (read extent bytes)
 
 pub ended_again : {A : Type 0} (c : Codec A) (extent : Extent) (x : A) → c.Fits x → c.read extent (c.spell x) ≡ Ok (x, [])
 ended_again c extent x fits = ap (c.read extent) (sym (append-nil (c.spell x))) ∙ c.again extent x [] fits
 
 abbrev pub ended : {A : Type 0} → Codec A → Body A
-ended c = record { spell = c.spell; Fits = c.Fits; read = c.read; takes = c.takes; again = ended_again c }
+ended c = record { spell = c.spell; Fits = c.Fits; read = c.read; takes = c.takes; again = ended_again c; sure = c.sure }
 
 pub before_takes : {A B : Type 0} (c : Codec A) (d : A → Body B) (extent : Extent) (bytes : List ℕ) (x : (A × B) × List ℕ) → IsBytes bytes → pair_read c.read (λ a. (d a).read) extent bytes ≡ Ok x → Takes bytes (c.spell x.0.0 ++ (d x.0.0).spell x.0.1) x.1 × (c.Fits x.0.0 × (d x.0.0).Fits x.0.1)
 unfolding pair_read
@@ -153,6 +157,7 @@ before c d = record {
   read = pair_read c.read (λ a. (d a).read);
   takes = before_takes c d;
   again = before_again c d;
+  sure = λ extent bytes. pair_sure c.read (λ a. (d a).read) extent bytes (c.sure extent bytes) (λ a rest. (d a).sure extent rest);
 }
 
 -- ---- a block
@@ -196,6 +201,38 @@ block_again id body extent x rest kind_fits fits =
     let inner = inner_of extent (block_bytes id (body.spell x) ++ rest) (4 + (length (body.spell x) + 2)) in
     rw (open_again id extent (body.spell x) rest kind_fits fits.1, body.again inner x fits.0) refl
 
+type_sure : kinds.BadType ≡ kinds.NoMemory → ⊥
+type_sure e = absurd cc
+
+version_sure : kinds.BadVersion ≡ kinds.NoMemory → ⊥
+version_sure e = absurd cc
+
+length_sure : kinds.BadLength ≡ kinds.NoMemory → ⊥
+length_sure e = absurd cc
+
+trailing_sure : kinds.Trailing ≡ kinds.NoMemory → ⊥
+trailing_sure e = absurd cc
+
+-- a test whose failure is a fault of the bytes
+guard_sure : {A : Type 0} (b : Bool) (d : BlockFault) (r : Result A BlockFault) → (d.kind ≡ kinds.NoMemory → ⊥) → IsSure r → IsSure (cond b (Err d) r)
+guard_sure b d r other r_sure = sure_if b (failed d) r (sure_err d other) r_sure
+
+pub header_sure : (id : BlockId) (extent : Extent) (bytes : List ℕ) → IsSure (header_at id extent bytes)
+unfolding header_at
+header_sure id extent bytes =
+    sure_if _ _ _ (sure_missing extent)
+    (guard_sure _ _ _ type_sure
+    (guard_sure _ _ _ version_sure
+    (guard_sure _ _ _ length_sure
+    (sure_if _ _ _ (sure_missing extent) (sure_ok (4 + number_in 2 (drop 2 bytes)))))))
+
+pub block_sure : {A : Type 0} (id : BlockId) (body : Body A) (extent : Extent) (bytes : List ℕ) → IsSure (block_at id body.read extent bytes)
+block_sure id body extent bytes =
+    sure_bind (open_at id extent bytes) (λ block. body.read block.0 block.1.0 >>= λ value. ended_at block.0 value.1 >>= λ _. Ok (value.0, block.1.1))
+    (sure_map (header_at id extent bytes) (λ size. (inner_of extent bytes size, (take (size - 6) (drop 6 bytes), drop size bytes))) (header_sure id extent bytes)) (λ block.
+    sure_bind (body.read block.0 block.1.0) (λ value. ended_at block.0 value.1 >>= λ _. Ok (value.0, block.1.1)) (body.sure block.0 block.1.0) (λ value.
+    sure_map (ended_at block.0 value.1) (λ _. (value.0, block.1.1)) (sure_if (length value.1 == 0) (done tt) (failed (missing_of block.0)) (sure_ok tt) (sure_missing block.0))))
+
 abbrev pub block : {A : Type 0} → (id : BlockId) → id.kind < 2 ^ 16 → Body A → Codec A
 block id kind_fits body = record {
   spell = λ x. block_bytes id (body.spell x);
@@ -203,6 +240,7 @@ block id kind_fits body = record {
   read = block_at id body.read;
   takes = block_takes id body;
   again = λ extent x rest fits. block_again id body extent x rest kind_fits fits;
+  sure = block_sure id body;
 }
 
 -- ---- a whole input
@@ -219,14 +257,26 @@ whole_takes {A} c bytes x fits e =
 pub whole_again : {A : Type 0} (c : Codec A) (x : A) → c.Fits x → whole_of c.read (c.spell x) ≡ Ok x
 whole_again c x fits = rw (ended_again c (input_of (length (c.spell x))) x fits) refl
 
--- what a reader of a whole input returned is spelled so
-pub found_from : {A : Type 0} (c : Codec A) (bytes : List ℕ) (r : Result A BlockFault) → IsBytes bytes → Gives (λ (x : A). x) r (whole_of c.read bytes) → IfOk r (λ x. c.Fits x × (bytes ≡ c.spell x))
-found_from c bytes (Ok x) fits given = whole_takes c bytes x fits given
-found_from c bytes (Err e) fits given = tt
+pub whole_sure : {A : Type 0} (c : Codec A) (bytes : List ℕ) → IsSure (whole_of c.read bytes)
+whole_sure c bytes =
+    sure_bind (c.read (input_of (length bytes)) bytes) (λ x. finished_at (length bytes) x.1 >>= λ _. Ok x.0) (c.sure (input_of (length bytes)) bytes) (λ x.
+    let d = fault_at kinds.Trailing (length bytes - length x.1) in
+    sure_map (finished_at (length bytes) x.1) (λ _. x.0) (sure_if (length x.1 == 0) (done tt) (failed d) (sure_ok tt) (sure_err d trailing_sure)))
 
--- what is spelled so is returned, want of memory aside
-pub only_from : {A : Type 0} (c : Codec A) (bytes : List ℕ) (r : Result A BlockFault) → Gives (λ (x : A). x) r (whole_of c.read bytes) → (x : A) → c.Fits x → bytes ≡ c.spell x → Gives (λ (y : A). y) r (Ok x)
-only_from {A} c bytes r given x fits e = subst (λ (read : Result A BlockFault). Gives (λ (y : A). y) r read) (ap (whole_of c.read) e ∙ whole_again c x fits) given
+-- the law of a codec whose values are those that are valid
+pub whole_law : {A : Type 0} (c : Codec A) (IsValid : A → Type 0) → ((v : A) → c.Fits v → IsValid v) → ((v : A) → IsValid v → c.Fits v) → ReadingIsSpelling (whole_of c.read) IsValid c.spell
+whole_law c IsValid valid fits =
+    one_spelling (whole_of c.read) IsValid c.spell (λ bytes v are_bytes e. let t = whole_takes c bytes v are_bytes e in (valid v t.0, t.1)) (λ v is. whole_again c v (fits v is))
+
+module _ {A : Type 0} (read : List ℕ → Result A BlockFault) (IsValid : A → Type 0) (spell : A → List ℕ) (law : ReadingIsSpelling read IsValid spell) where
+  -- what a reader returned is valid, and spelled so
+  pub found_by : (bytes : List ℕ) (r : Result A BlockFault) → IsBytes bytes → Gives (λ (x : A). x) r (read bytes) → IfOk r (λ x. IsValid x × (bytes ≡ spell x))
+  found_by bytes (Ok x) fits given = (law.reads bytes x fits).0 given
+  found_by bytes (Err e) fits given = tt
+
+  -- what is spelled so is returned, want of memory aside
+  pub only_by : (bytes : List ℕ) (r : Result A BlockFault) → Gives (λ (x : A). x) r (read bytes) → (x : A) → IsValid x → bytes ≡ spell x → Gives (λ (y : A). y) r (Ok x)
+  only_by bytes r given x valid e = subst (λ (answer : Result A BlockFault). Gives (λ (y : A). y) r answer) (ap read e ∙ law.back x valid) given
 
 -- ---- the same bytes as another value, up to the end
 
@@ -261,4 +311,5 @@ body_view c to from spell Fits read v = record {
   read = read;
   takes = body_view_takes c to from spell Fits read v;
   again = body_view_again c to from spell Fits read v;
+  sure = λ extent bytes. sure_along (read extent bytes) (c.read extent bytes >>= λ x. Ok (to x.0, x.1)) (v.read_is extent bytes) (sure_map (c.read extent bytes) (λ x. (to x.0, x.1)) (c.sure extent bytes));
 }

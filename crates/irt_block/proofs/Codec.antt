@@ -11,9 +11,11 @@ use Rattle.irt_block.specs.declared.fault.BlockKind.TheVariants as kinds
 use Rattle.irt_block.specs.declared.extent.Extent.{Extent}
 use Rattle.irt_block.specs.declared.bytes.ByteClass.{ByteClass}
 use Rattle.irt_block.specs.declared.bytes.ByteClass.TheVariants as classes
-use Rattle.irt_block.specs.Reading.{◌>>=◌, Reader, fault_at, offset_of, missing_of, spelled, number_in, raw_at, number_at, rule_at, ruled_at, constant_at, is_of, kind_of, bytes_pass, class_at, pad_at, repeat_at}
-use Rattle.irt_block.proofs.Numbers.{IsBytes, IsBytes-drop, IsBytes-take, each_byte, IsWidth, length-spelled, number_in-spelled, number_in-lt, spelled-number_in}
-use Rattle.irt_block.proofs.Steps.{bind_ok, guard_not, guard_so, ok_is, Takes, Takes-then}
+use Rattle.irt_block.specs.Reading.{◌>>=◌, Reader, IsSure, fault_at, offset_of, missing_of, spelled, number_in, raw_at, number_at, rule_at, ruled_at, constant_at, is_of, kind_of, bytes_pass, class_at, pad_at, repeat_at}
+use Rattle.byte_laws.specs.Spelling.{IsBytes}
+use Rattle.byte_laws.proofs.Words.{IsBytes-drop, IsBytes-take, each_byte}
+use Rattle.irt_block.proofs.Numbers.{length-spelled, number_in-spelled, number_in-lt, spelled-number_in}
+use Rattle.irt_block.proofs.Steps.{bind_ok, guard_not, guard_so, done, ok_is, Takes, Takes-then, failed, sure_ok, sure_err, sure_missing, sure_if, sure_bind, sure_map, sure_along}
 
 pub record Codec (A : Type 0) : Type 1 where
   -- the one spelling of a value
@@ -25,6 +27,8 @@ pub record Codec (A : Type 0) : Type 1 where
   pub takes : (extent : Extent) (bytes : List ℕ) (x : A × List ℕ) → IsBytes bytes → read extent bytes ≡ Ok x → Takes bytes (spell x.0) x.1 × Fits x.0
   -- what is spelled so is read
   pub again : (extent : Extent) (x : A) (rest : List ℕ) → Fits x → read extent (spell x ++ rest) ≡ Ok (x, rest)
+  -- a refusal is not for want of memory
+  pub sure : (extent : Extent) (bytes : List ℕ) → IsSure (read extent bytes)
 
 -- ---- bytes as they are
 
@@ -41,6 +45,9 @@ raw_again n extent x rest len =
     let long : nat_lt (length (x ++ rest)) n ≡ false = le-ltb _ _ (omega (arith, length-append x rest)) in
     rw (long, take_at x rest n len, drop_at x rest n len) refl
 
+pub raw_sure : (n : ℕ) (extent : Extent) (bytes : List ℕ) → IsSure (raw_at n extent bytes)
+raw_sure n extent bytes = sure_if (nat_lt (length bytes) n) (failed (missing_of extent)) (done (take n bytes, drop n bytes)) (sure_missing extent) (sure_ok (take n bytes, drop n bytes))
+
 abbrev pub raw : ℕ → Codec (List ℕ)
 raw n = record {
   spell = λ x. x;
@@ -48,15 +55,16 @@ raw n = record {
   read = raw_at n;
   takes = raw_takes n;
   again = λ extent x rest fits. raw_again n extent x rest fits.0;
+  sure = raw_sure n;
 }
 
 -- ---- numbers
 
-pub number_takes : (n : ℕ) (width : IsWidth n) (extent : Extent) (bytes : List ℕ) (x : ℕ × List ℕ) → IsBytes bytes → number_at n extent bytes ≡ Ok x → Takes bytes (spelled n x.0) x.1 × (x.0 < 256 ^ n)
-number_takes n width extent bytes x fits e =
+pub number_takes : (n : ℕ) (extent : Extent) (bytes : List ℕ) (x : ℕ × List ℕ) → IsBytes bytes → number_at n extent bytes ≡ Ok x → Takes bytes (spelled n x.0) x.1 × (x.0 < 256 ^ n)
+number_takes n extent bytes x fits e =
     let g = guard_not (nat_lt (length bytes) n) (missing_of extent) (number_in n bytes, drop n bytes) x e in
     let long : n ≤ length bytes = ltb-false _ _ g.0 in
-    let front : spelled n (number_in n bytes) ≡ take n bytes = spelled-number_in n width bytes long fits in
+    let front : spelled n (number_in n bytes) ≡ take n bytes = spelled-number_in n bytes long fits in
     subst (λ (y : ℕ × List ℕ). Takes bytes (spelled n y.0) y.1 × (y.0 < 256 ^ n)) g.1
     (record { parts = rw front (sym (take-append-drop n bytes)); rest_fits = IsBytes-drop n bytes fits }, number_in-lt n bytes fits)
 
@@ -66,13 +74,17 @@ number_again n extent x rest lt =
     let long : nat_lt (length (spelled n x ++ rest)) n ≡ false = le-ltb _ _ (omega (arith, len, length-append (spelled n x) rest)) in
     rw (long, number_in-spelled n x rest lt, drop_at (spelled n x) rest n len) refl
 
-abbrev pub number : (n : ℕ) → IsWidth n → Codec ℕ
-number n width = record {
+pub number_sure : (n : ℕ) (extent : Extent) (bytes : List ℕ) → IsSure (number_at n extent bytes)
+number_sure n extent bytes = sure_if (nat_lt (length bytes) n) (failed (missing_of extent)) (done (number_in n bytes, drop n bytes)) (sure_missing extent) (sure_ok (number_in n bytes, drop n bytes))
+
+abbrev pub number : ℕ → Codec ℕ
+number n = record {
   spell = spelled n;
   Fits = λ x. x < 256 ^ n;
   read = number_at n;
-  takes = number_takes n width;
+  takes = number_takes n;
   again = number_again n;
+  sure = number_sure n;
 }
 
 -- ---- a rule on a field's value
@@ -91,6 +103,17 @@ checked_takes {A} c rule extent bytes x fits e =
 pub checked_again : {A : Type 0} (c : Codec A) (rule : A → Bool) (extent : Extent) (x : A) (rest : List ℕ) → c.Fits x × (rule x ≡ true) → checked_read c.read rule extent (c.spell x ++ rest) ≡ Ok (x, rest)
 checked_again c rule extent x rest fits = rw (c.again extent x rest fits.0, fits.1) refl
 
+value_fault : (kind_is : kinds.BadValue ≡ kinds.NoMemory) → ⊥
+value_fault e = absurd cc
+
+pub rule_sure : (holds : Bool) (extent : Extent) (bytes : List ℕ) → IsSure (rule_at holds extent bytes)
+rule_sure holds extent bytes = sure_if holds (done tt) (failed (fault_at kinds.BadValue (offset_of extent bytes))) (sure_ok tt) (sure_err (fault_at kinds.BadValue (offset_of extent bytes)) value_fault)
+
+pub checked_sure : {A : Type 0} (c : Codec A) (rule : A → Bool) (extent : Extent) (bytes : List ℕ) → IsSure (checked_read c.read rule extent bytes)
+checked_sure c rule extent bytes =
+    sure_bind (c.read extent bytes) (λ x. rule_at (rule x.0) extent bytes >>= λ _. Ok x) (c.sure extent bytes) (λ x.
+    sure_map (rule_at (rule x.0) extent bytes) (λ _. x) (rule_sure (rule x.0) extent bytes))
+
 abbrev pub checked : {A : Type 0} → Codec A → (A → Bool) → Codec A
 checked c rule = record {
   spell = c.spell;
@@ -98,32 +121,34 @@ checked c rule = record {
   read = checked_read c.read rule;
   takes = checked_takes c rule;
   again = checked_again c rule;
+  sure = checked_sure c rule;
 }
 
-abbrev pub ruled : (n : ℕ) → IsWidth n → (ℕ → Bool) → Codec ℕ
-ruled n width rule = checked (number n width) rule
+abbrev pub ruled : ℕ → (ℕ → Bool) → Codec ℕ
+ruled n rule = checked (number n) rule
 
 -- ---- a field that is always the same
 
-pub constant_takes : (n value : ℕ) (width : IsWidth n) (extent : Extent) (bytes : List ℕ) (x : Unit {0} × List ℕ) → IsBytes bytes → constant_at n value extent bytes ≡ Ok x → Takes bytes (spelled n value) x.1 × Unit {0}
-constant_takes n value width extent bytes x fits e =
+pub constant_takes : (n value : ℕ) (extent : Extent) (bytes : List ℕ) (x : Unit {0} × List ℕ) → IsBytes bytes → constant_at n value extent bytes ≡ Ok x → Takes bytes (spelled n value) x.1 × Unit {0}
+constant_takes n value extent bytes x fits e =
     let a = bind_ok (ruled_at n (λ y. y == value) extent bytes) (λ y. Ok (tt, y.1)) x e in
-    let t = (ruled n width (λ y. y == value)).takes extent bytes a.0 fits a.1 in
+    let t = (ruled n (λ y. y == value)).takes extent bytes a.0 fits a.1 in
     let same : a.0.0 ≡ value = eqb-true _ _ t.1.1 in
     subst (λ (y : Unit {0} × List ℕ). Takes bytes (spelled n value) y.1 × Unit {0}) (ok_is (tt, a.0.1) x a.2) (subst (λ (v : ℕ). Takes bytes (spelled n v) a.0.1) same t.0, tt)
 
-pub constant_again : (n value : ℕ) (width : IsWidth n) (extent : Extent) (rest : List ℕ) → value < 256 ^ n → constant_at n value extent (spelled n value ++ rest) ≡ Ok (tt, rest)
-constant_again n value width extent rest lt =
+pub constant_again : (n value : ℕ) (extent : Extent) (rest : List ℕ) → value < 256 ^ n → constant_at n value extent (spelled n value ++ rest) ≡ Ok (tt, rest)
+constant_again n value extent rest lt =
     let same : (value == value) ≡ true = grind arith in
-    rw ((ruled n width (λ y. y == value)).again extent value rest (lt, same)) refl
+    rw ((ruled n (λ y. y == value)).again extent value rest (lt, same)) refl
 
-abbrev pub constant : (n value : ℕ) → IsWidth n → value < 256 ^ n → Codec (Unit {0})
-constant n value width lt = record {
+abbrev pub constant : (n value : ℕ) → value < 256 ^ n → Codec (Unit {0})
+constant n value lt = record {
   spell = λ _. spelled n value;
   Fits = λ _. Unit {0};
   read = constant_at n value;
-  takes = constant_takes n value width;
-  again = λ extent x rest fits. constant_again n value width extent rest lt;
+  takes = constant_takes n value;
+  sure = λ extent bytes. sure_map (ruled_at n (λ y. y == value) extent bytes) (λ y. (tt, y.1)) ((ruled n (λ y. y == value)).sure extent bytes);
+  again = λ extent x rest fits. constant_again n value extent rest lt;
 }
 
 -- ---- bytes of a class
@@ -161,6 +186,23 @@ class_again class n extent x rest fits =
     let all : bytes_pass class n extent (x ++ rest) ≡ Ok tt = subst (λ (m : ℕ). bytes_pass class m extent (x ++ rest) ≡ Ok tt) fits.0 (pass_again class extent x rest fits.1) in
     rw (raw_again n extent x rest fits.0, all) refl
 
+kind_is_sure : (class : ByteClass) → kind_of class ≡ kinds.NoMemory → ⊥
+kind_is_sure classes.Zero e = absurd cc
+kind_is_sure classes.Letter e = absurd cc
+
+pass_sure : (class : ByteClass) (n : ℕ) (extent : Extent) (bytes : List ℕ) → IsSure (bytes_pass class n extent bytes)
+pass_sure class zero extent bytes = sure_ok tt
+pass_sure class (suc n) extent [] = sure_ok tt
+pass_sure class (suc n) extent (b ∷ bytes) =
+    let d = fault_at (kind_of class) (offset_of extent (b ∷ bytes)) in
+    sure_if (is_of class b) (bytes_pass class n extent bytes) (failed d) (pass_sure class n extent bytes) (sure_err d (kind_is_sure class))
+
+pub class_sure : (class : ByteClass) (n : ℕ) (extent : Extent) (bytes : List ℕ) → IsSure (class_at class n extent bytes)
+unfolding class_at
+class_sure class n extent bytes =
+    sure_bind (raw_at n extent bytes) (λ x. bytes_pass class n extent bytes >>= λ _. Ok x) (raw_sure n extent bytes) (λ x.
+    sure_map (bytes_pass class n extent bytes) (λ _. x) (pass_sure class n extent bytes))
+
 abbrev pub of_class : ByteClass → ℕ → Codec (List ℕ)
 of_class class n = record {
   spell = λ x. x;
@@ -168,6 +210,7 @@ of_class class n = record {
   read = class_at class n;
   takes = class_takes class n;
   again = class_again class n;
+  sure = class_sure class n;
 }
 
 -- ---- padding
@@ -201,6 +244,10 @@ pub pad_again : (n : ℕ) (extent : Extent) (rest : List ℕ) → pad_at n exten
 unfolding pad_at
 pad_again n extent rest = rw (class_again classes.Zero n extent (replicate n 0) rest (zeros_count n, zeros_pass n)) refl
 
+pub pad_sure : (n : ℕ) (extent : Extent) (bytes : List ℕ) → IsSure (pad_at n extent bytes)
+unfolding pad_at
+pad_sure n extent bytes = sure_map (class_at classes.Zero n extent bytes) (λ x. (tt, x.1)) (class_sure classes.Zero n extent bytes)
+
 abbrev pub padding : ℕ → Codec (Unit {0})
 padding n = record {
   spell = λ _. replicate n 0;
@@ -208,6 +255,7 @@ padding n = record {
   read = pad_at n;
   takes = pad_takes n;
   again = λ extent x rest fits. pad_again n extent rest;
+  sure = pad_sure n;
 }
 
 -- ---- one field after another, where the second may depend on the first
@@ -232,6 +280,12 @@ pair_again c d extent x rest fits =
     let regrouped = append_assoc (c.spell x.0) ((d x.0).spell x.1) rest in
     ap (pair_read c.read (λ a. (d a).read) extent) regrouped ∙ rw (c.again extent x.0 ((d x.0).spell x.1 ++ rest) fits.0, (d x.0).again extent x.1 rest fits.1) refl
 
+pub pair_sure : {A B : Type 0} (first : Reader A) (second : A → Reader B) (extent : Extent) (bytes : List ℕ) → IsSure (first extent bytes) → ((a : A) (rest : List ℕ) → IsSure (second a extent rest)) → IsSure (pair_read first second extent bytes)
+unfolding pair_read
+pair_sure first second extent bytes first_sure second_sure =
+    sure_bind (first extent bytes) (λ x. second x.0 extent x.1 >>= λ y. Ok ((x.0, y.0), y.1)) first_sure (λ x.
+    sure_map (second x.0 extent x.1) (λ y. ((x.0, y.0), y.1)) (second_sure x.0 x.1))
+
 abbrev pub pair : {A B : Type 0} → Codec A → (A → Codec B) → Codec (A × B)
 pair c d = record {
   spell = λ x. c.spell x.0 ++ (d x.0).spell x.1;
@@ -239,6 +293,7 @@ pair c d = record {
   read = pair_read c.read (λ a. (d a).read);
   takes = pair_takes c d;
   again = pair_again c d;
+  sure = λ extent bytes. pair_sure c.read (λ a. (d a).read) extent bytes (c.sure extent bytes) (λ a rest. (d a).sure extent rest);
 }
 
 bind_map : {A B C : Type 0} (r : Result A BlockFault) (h : A → B) (f : B → Result C BlockFault) → (r >>= λ x. f (h x)) ≡ ((r >>= λ x. Ok (h x)) >>= f)
@@ -283,6 +338,13 @@ pub repeat_again_count : {A : Type 0} (c : Codec A) (n : ℕ) (extent : Extent) 
 repeat_again_count c n extent xs rest fits =
     subst (λ (m : ℕ). repeat_at c.read m extent (flat_map c.spell xs ++ rest) ≡ Ok (xs, rest)) fits.0 (repeat_again c extent xs rest fits.1)
 
+pub repeat_sure : {A : Type 0} (c : Codec A) (n : ℕ) (extent : Extent) (bytes : List ℕ) → IsSure (repeat_at c.read n extent bytes)
+unfolding repeat_at
+repeat_sure c zero extent bytes = sure_ok ([], bytes)
+repeat_sure c (suc n) extent bytes =
+    sure_bind (c.read extent bytes) (λ first. repeat_at c.read n extent first.1 >>= λ others. Ok (first.0 ∷ others.0, others.1)) (c.sure extent bytes) (λ first.
+    sure_map (repeat_at c.read n extent first.1) (λ others. (first.0 ∷ others.0, others.1)) (repeat_sure c n extent first.1))
+
 abbrev pub repeat : {A : Type 0} → Codec A → ℕ → Codec (List A)
 repeat c n = record {
   spell = flat_map c.spell;
@@ -290,6 +352,7 @@ repeat c n = record {
   read = repeat_at c.read n;
   takes = repeat_takes c n;
   again = repeat_again_count c n;
+  sure = repeat_sure c n;
 }
 
 -- ---- the same bytes as another value
@@ -326,4 +389,5 @@ view c to from spell Fits read v = record {
   read = read;
   takes = view_takes c to from spell Fits read v;
   again = view_again c to from spell Fits read v;
+  sure = λ extent bytes. sure_along (read extent bytes) (c.read extent bytes >>= λ x. Ok (to x.0, x.1)) (v.read_is extent bytes) (sure_map (c.read extent bytes) (λ x. (to x.0, x.1)) (c.sure extent bytes));
 }

@@ -1,34 +1,15 @@
 -- Reading in a loop: the step of a loop is the step of a reader.
-use Rattle.std.proofs.Common.{◌≡◌, ℕ, suc, ◌+◌, ◌-◌, ◌<◌, ◌≤◌, true, false, cond, List, [], ◌∷◌, ◌++◌, length, drop, get_or, Result, Ok, Err, refl, sym, ap, ◌∙◌, append_assoc, add-one, arith, drop-cons}
+use Rattle.std.proofs.Common.{◌≡◌, ℕ, suc, ◌+◌, ◌-◌, ◌<◌, ◌≤◌, true, false, cond, List, [], ◌∷◌, ◌++◌, length, drop, get_or, Result, Ok, Err, refl, sym, ap, ◌∙◌, append_assoc, add-one, arith, drop-cons, inl, inr}
 use Rattle.std.proofs.lemmas.List.{append-nil, length-drop}
 use Rattle.irt_block.specs.declared.fault.BlockFault.{BlockFault}
-use Rattle.irt_block.specs.declared.fault.BlockKind.{BlockKind}
-use Rattle.irt_block.specs.declared.fault.BlockKind.TheVariants as kinds
 use Rattle.irt_block.specs.declared.extent.Extent.{Extent}
 use Rattle.irt_block.specs.declared.bytes.ByteClass.{ByteClass}
 use Rattle.irt_block.specs.Reading.{◌>>=◌, Reader, Fails, fault_at, is_of, kind_of, bytes_pass, repeat_at}
 
 -- a fault of a part is that of the whole, want of memory aside
-pub fails_on : {A B : Type 0} (kind : BlockKind) (e : BlockFault) (part : Result A BlockFault) (whole : Result B BlockFault) → Fails kind e part → (part ≡ Err e → whole ≡ Err e) → Fails kind e whole
-fails_on kinds.NoMemory e part whole h go = tt
-fails_on kinds.Short e part whole h go = go h
-fails_on kinds.BadType e part whole h go = go h
-fails_on kinds.BadLength e part whole h go = go h
-fails_on kinds.BadVersion e part whole h go = go h
-fails_on kinds.BadPad e part whole h go = go h
-fails_on kinds.BadValue e part whole h go = go h
-fails_on kinds.Trailing e part whole h go = go h
-
--- a fault of a reader that takes no memory
-pub fails_so : {A : Type 0} (kind : BlockKind) (e : BlockFault) (read : Result A BlockFault) → read ≡ Err e → Fails kind e read
-fails_so kinds.NoMemory e read h = tt
-fails_so kinds.Short e read h = h
-fails_so kinds.BadType e read h = h
-fails_so kinds.BadLength e read h = h
-fails_so kinds.BadVersion e read h = h
-fails_so kinds.BadPad e read h = h
-fails_so kinds.BadValue e read h = h
-fails_so kinds.Trailing e read h = h
+pub fails_on : {A B : Type 0} (e : BlockFault) (part : Result A BlockFault) (whole : Result B BlockFault) → Fails e part → (part ≡ Err e → whole ≡ Err e) → Fails e whole
+fails_on e part whole (inl none_left) go = inl none_left
+fails_on e part whole (inr bad) go = inr (go bad)
 
 -- ---- bytes of a class
 
@@ -70,10 +51,10 @@ goes_on item front count i extent bytes n after total lt h so_far =
     let one : with_front front (repeat_at item (count - i) extent bytes) ≡ with_front (front ++ n ∷ []) (repeat_at item (count - (i + 1)) extent after) = rw (k, h) (regroup front n (repeat_at item (count - (i + 1)) extent after)) in
     sym one ∙ so_far
 
-pub ends : {A : Type 0} (e : BlockFault) (item : Reader A) (front : List A) (count i : ℕ) (extent : Extent) (bytes : List ℕ) (total : Result (List A × List ℕ) BlockFault) → i < count → Fails e.kind e (item extent bytes)
-    → with_front front (repeat_at item (count - i) extent bytes) ≡ total → Fails e.kind e total
+pub ends : {A : Type 0} (e : BlockFault) (item : Reader A) (front : List A) (count i : ℕ) (extent : Extent) (bytes : List ℕ) (total : Result (List A × List ℕ) BlockFault) → i < count → Fails e (item extent bytes)
+    → with_front front (repeat_at item (count - i) extent bytes) ≡ total → Fails e total
 unfolding repeat_at
-ends e item front count i extent bytes total lt h so_far = fails_on e.kind e (item extent bytes) total h (λ bad.
+ends e item front count i extent bytes total lt h so_far = fails_on e (item extent bytes) total h (λ bad.
     let k : count - i ≡ suc (count - (i + 1)) = omega arith in
     let one : with_front front (repeat_at item (count - i) extent bytes) ≡ Err e = rw (k, bad) refl in
     sym so_far ∙ one)

@@ -1,5 +1,5 @@
 -- Reading fields from left to right. A reader answers a value and the bytes after it, or the first fault.
-use Rattle.std.specs.Prelude.{◌≡◌, ℕ, zero, suc, ◌-◌, ◌==◌, ◌&&◌, ◌||◌, nat_lt, nat_le, Bool, if◌then◌else◌, List, [], ◌∷◌, length, take, drop, Result, Ok, Err}
+use Rattle.std.specs.Prelude.{◌≡◌, ◌≢◌, ◌⊎◌, ℕ, zero, suc, ◌-◌, ◌==◌, ◌&&◌, ◌||◌, nat_lt, nat_le, Bool, if◌then◌else◌, List, [], ◌∷◌, length, take, drop, Result, Ok, Err}
 use Rattle.byteorder.specs.Endian.{big_bytes, big_number}
 use Rattle.irt_block.specs.declared.fault.BlockKind.{BlockKind}
 use Rattle.irt_block.specs.declared.fault.BlockKind.TheVariants as kinds
@@ -21,27 +21,28 @@ abbrev pub GivesSurely : {X Y : Type 0} → (X → Y) → Result X BlockFault �
 GivesSurely view (Ok x) read = read ≡ Ok (view x)
 GivesSurely view (Err e) read = read ≡ Err e
 
--- The same of a function that takes memory: unless memory ran out.
-abbrev pub Fails : {Y : Type 0} → BlockKind → BlockFault → Result Y BlockFault → Type 0
-Fails kinds.NoMemory e read = Unit {0}
-Fails kinds.Short e read = read ≡ Err e
-Fails kinds.BadType e read = read ≡ Err e
-Fails kinds.BadLength e read = read ≡ Err e
-Fails kinds.BadVersion e read = read ≡ Err e
-Fails kinds.BadPad e read = read ≡ Err e
-Fails kinds.BadValue e read = read ≡ Err e
-Fails kinds.Trailing e read = read ≡ Err e
+abbrev pub fault_at : BlockKind → ℕ → BlockFault
+fault_at kind offset = record { kind = kind; offset = offset }
+
+-- the fault where memory ran out
+abbrev pub no_memory : BlockFault
+no_memory = fault_at kinds.NoMemory 0
+
+-- The same of a function that takes memory: or memory ran out.
+abbrev pub Fails : {Y : Type 0} → BlockFault → Result Y BlockFault → Type 0
+Fails e read = (e ≡ no_memory) ⊎ (read ≡ Err e)
 
 abbrev pub Gives : {X Y : Type 0} → (X → Y) → Result X BlockFault → Result Y BlockFault → Type 0
 Gives view (Ok x) read = read ≡ Ok (view x)
-Gives view (Err e) read = Fails e.kind e read
+Gives view (Err e) read = Fails e read
+
+-- no refusal is for want of memory
+abbrev pub IsSure : {Y : Type 0} → Result Y BlockFault → Type 0
+IsSure read = (e : BlockFault) → read ≡ Err e → e.kind ≢ kinds.NoMemory
 
 -- reads a value off the front of the bytes that are left of an extent
 abbrev pub Reader : Type 0 → Type 0
 Reader A = Extent → List ℕ → Result (A × List ℕ) BlockFault
-
-abbrev pub fault_at : BlockKind → ℕ → BlockFault
-fault_at kind offset = record { kind = kind; offset = offset }
 
 -- the offset of the bytes that are left
 abbrev pub offset_of : Extent → List ℕ → ℕ

@@ -1,7 +1,7 @@
 //! Why bytes are no block.
 
 ghost use Rattle.std.specs.Prelude.{◌≡◌};
-ghost use Rattle.irt_block.specs.declared.fault.BlockKind.TheVariants.{NoMemory as OutOfMemory};
+ghost use Rattle.irt_block.specs.Reading.{no_memory};
 
 use irt_base::memory::NoMemory;
 use std::alloc::{AllocError, AllocFailed};
@@ -43,7 +43,7 @@ pub struct BlockFault {
 
 impl BlockFault {
     fn out_of_memory() -> BlockFault
-        ensures { result.kind ≡ OutOfMemory }
+        ensures { result ≡ no_memory }
     {
         BlockFault {
             kind: BlockKind::NoMemory,
@@ -53,7 +53,7 @@ impl BlockFault {
 }
 
 impl From<NoMemory> for BlockFault {
-    ghost from_gives = { λ _ e. e.kind ≡ OutOfMemory };
+    ghost from_gives = { λ _ e. e ≡ no_memory };
 
     fn from(_cause: NoMemory) -> BlockFault {
         BlockFault::out_of_memory()
@@ -61,7 +61,7 @@ impl From<NoMemory> for BlockFault {
 }
 
 impl From<AllocError> for BlockFault {
-    ghost from_gives = { λ _ e. e.kind ≡ OutOfMemory };
+    ghost from_gives = { λ _ e. e ≡ no_memory };
 
     fn from(_cause: AllocError) -> BlockFault {
         BlockFault::out_of_memory()
@@ -69,7 +69,7 @@ impl From<AllocError> for BlockFault {
 }
 
 impl<T: Drop> From<AllocFailed<T>> for BlockFault {
-    ghost from_gives = { λ _ e. e.kind ≡ OutOfMemory };
+    ghost from_gives = { λ _ e. e ≡ no_memory };
 
     fn from(_cause: AllocFailed<T>) -> BlockFault {
         BlockFault::out_of_memory()
