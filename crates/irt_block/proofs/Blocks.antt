@@ -1,6 +1,6 @@
 -- A block is a codec if its fields are read to their end, and a whole input is a value and nothing else.
 use Rattle.std.proofs.Common.{◌≡◌, ℕ, ◌+◌, ◌-◌, ◌^◌, ◌<◌, ◌≤◌, Bool, true, false, cond, not, eqb, nat_lt, ◌==◌, List, [], ◌∷◌, ◌++◌, length, take, drop, slice_index, Result, Ok, Err, refl, sym, ap, subst, ◌∙◌, append_assoc, arith, length-drop, drop-drop}
-use Rattle.std.specs.Prelude.{IfOk}
+use Rattle.std.specs.Prelude.{IfOk, replicate}
 use Rattle.std.proofs.lemmas.Bool.{ltb-false, le-ltb, eqb-true, and_parts}
 use Rattle.std.proofs.lemmas.List.{take_at, drop_at, take-append-drop, length-append, length-take, append-nil, nil_from_length}
 use Rattle.irt_block.specs.declared.fault.BlockFault.{BlockFault}
@@ -14,7 +14,7 @@ use Rattle.byte_laws.proofs.Spelling.{one_spelling}
 use Rattle.byte_laws.proofs.Words.{IsBytes-drop, IsBytes-take}
 use Rattle.irt_block.proofs.Numbers.{length-spelled, number_in-spelled, number_in-lt, spelled-number_in}
 use Rattle.irt_block.proofs.Steps.{bind_ok, guard_not, guard_so, guard_past, done, ok_is, Takes, Takes-then, failed, sure_ok, sure_err, sure_missing, sure_if, sure_bind, sure_map, sure_along}
-use Rattle.irt_block.proofs.Codec.{Codec, pair_read, pair_sure}
+use Rattle.irt_block.proofs.Codec.{Codec, pair_read, pair_sure, IsView, view_takes, view_sure}
 
 -- ---- the header
 
@@ -280,36 +280,25 @@ module _ {A : Type 0} (read : List ℕ → Result A BlockFault) (IsValid : A →
 
 -- ---- the same bytes as another value, up to the end
 
--- how two types of values stand for each other, and what is read and spelled of the second
-pub record IsBodyView {A B : Type 0} (c : Body A) (to : A → B) (from : B → A) (spell : B → List ℕ) (Fits : B → Type 0) (read : Reader B) : Type 0 where
-  pub spell_is : (b : B) → spell b ≡ c.spell (from b)
-  pub read_is : (extent : Extent) (bytes : List ℕ) → read extent bytes ≡ (c.read extent bytes >>= λ x. Ok (to x.0, x.1))
-  pub fits : (a : A) → c.Fits a → Fits (to a) × (from (to a) ≡ a)
-  pub back : (b : B) → Fits b → c.Fits (from b) × (to (from b) ≡ b)
-
-pub body_view_takes : {A B : Type 0} (c : Body A) (to : A → B) (from : B → A) (spell : B → List ℕ) (Fits : B → Type 0) (read : Reader B) (v : IsBodyView c to from spell Fits read)
-    (extent : Extent) (bytes : List ℕ) (x : B × List ℕ) → IsBytes bytes → read extent bytes ≡ Ok x → Takes bytes (spell x.0) x.1 × Fits x.0
-body_view_takes {A} {B} c to from spell Fits read v extent bytes x fits e =
-    let a = bind_ok (c.read extent bytes) (λ y. Ok (to y.0, y.1)) x (sym (v.read_is extent bytes) ∙ e) in
-    let t = c.takes extent bytes a.0 fits a.1 in
-    let f = v.fits a.0.0 t.1 in
-    let same : c.spell a.0.0 ≡ spell (to a.0.0) = sym (v.spell_is (to a.0.0) ∙ ap c.spell f.1) in
-    let made : B × List ℕ = (to a.0.0, a.0.1) in
-    subst (λ (y : B × List ℕ). Takes bytes (spell y.0) y.1 × Fits y.0) (ok_is made x a.2) (subst (λ (s : List ℕ). Takes bytes s a.0.1) same t.0, f.0)
-
-pub body_view_again : {A B : Type 0} (c : Body A) (to : A → B) (from : B → A) (spell : B → List ℕ) (Fits : B → Type 0) (read : Reader B) (v : IsBodyView c to from spell Fits read)
+pub body_view_again : {A B : Type 0} (c : Body A) (to : A → B) (from : B → A) (spell : B → List ℕ) (Fits : B → Type 0) (read : Reader B) (v : IsView c.spell c.Fits c.read to from spell Fits read)
     (extent : Extent) (x : B) → Fits x → read extent (spell x) ≡ Ok (x, [])
 body_view_again {A} {B} c to from spell Fits read v extent x fits =
     let b = v.back x fits in
     let two : (c.read extent (c.spell (from x)) >>= λ y. Ok (to y.0, y.1)) ≡ Ok (to (from x), []) = rw (c.again extent (from x) b.0) refl in
     ap (read extent) (v.spell_is x) ∙ v.read_is extent (c.spell (from x)) ∙ two ∙ ap (λ (y : B). Ok (y, [])) b.1
 
-abbrev pub body_view : {A B : Type 0} → (c : Body A) → (to : A → B) → (from : B → A) → (spell : B → List ℕ) → (Fits : B → Type 0) → (read : Reader B) → IsBodyView c to from spell Fits read → Body B
+abbrev pub body_view : {A B : Type 0} → (c : Body A) → (to : A → B) → (from : B → A) → (spell : B → List ℕ) → (Fits : B → Type 0) → (read : Reader B) → IsView c.spell c.Fits c.read to from spell Fits read → Body B
 body_view c to from spell Fits read v = record {
   spell = spell;
   Fits = Fits;
   read = read;
-  takes = body_view_takes c to from spell Fits read v;
+  takes = view_takes c.spell c.Fits c.read to from spell Fits read v c.takes;
   again = body_view_again c to from spell Fits read v;
-  sure = λ extent bytes. sure_along (read extent bytes) (c.read extent bytes >>= λ x. Ok (to x.0, x.1)) (v.read_is extent bytes) (sure_map (c.read extent bytes) (λ x. (to x.0, x.1)) (c.sure extent bytes));
+  sure = view_sure c.spell c.Fits c.read to from spell Fits read v c.sure;
 }
+
+-- ---- writing
+
+-- the bytes of a block's fields, behind the place of its header
+pub written_fits : (fields out : List ℕ) → length fields + 2 < 2 ^ 16 → out ≡ replicate 6 0 ++ fields → length out < 65540
+written_fits fields out fits e = let size = ap length e ∙ length-append {A = ℕ} (replicate 6 0) fields in omega arith

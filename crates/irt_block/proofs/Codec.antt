@@ -357,37 +357,41 @@ repeat c n = record {
 
 -- ---- the same bytes as another value
 
--- how two types of values stand for each other, and what is read and spelled of the second
-pub record IsView {A B : Type 0} (c : Codec A) (to : A → B) (from : B → A) (spell : B → List ℕ) (Fits : B → Type 0) (read : Reader B) : Type 0 where
-  pub spell_is : (b : B) → spell b ≡ c.spell (from b)
-  pub read_is : (extent : Extent) (bytes : List ℕ) → read extent bytes ≡ (c.read extent bytes >>= λ x. Ok (to x.0, x.1))
-  pub fits : (a : A) → c.Fits a → Fits (to a) × (from (to a) ≡ a)
-  pub back : (b : B) → Fits b → c.Fits (from b) × (to (from b) ≡ b)
+-- how two types of values stand for each other, and what is spelled, valid and read of each
+pub record IsView {A B : Type 0} (spell_first : A → List ℕ) (FitsFirst : A → Type 0) (read_first : Reader A) (to : A → B) (from : B → A) (spell : B → List ℕ) (Fits : B → Type 0) (read : Reader B) : Type 0 where
+  pub spell_is : (b : B) → spell b ≡ spell_first (from b)
+  pub read_is : (extent : Extent) (bytes : List ℕ) → read extent bytes ≡ (read_first extent bytes >>= λ x. Ok (to x.0, x.1))
+  pub fits : (a : A) → FitsFirst a → Fits (to a) × (from (to a) ≡ a)
+  pub back : (b : B) → Fits b → FitsFirst (from b) × (to (from b) ≡ b)
 
-pub view_takes : {A B : Type 0} (c : Codec A) (to : A → B) (from : B → A) (spell : B → List ℕ) (Fits : B → Type 0) (read : Reader B) (v : IsView c to from spell Fits read)
-    (extent : Extent) (bytes : List ℕ) (x : B × List ℕ) → IsBytes bytes → read extent bytes ≡ Ok x → Takes bytes (spell x.0) x.1 × Fits x.0
-view_takes {A} {B} c to from spell Fits read v extent bytes x fits e =
-    let a = bind_ok (c.read extent bytes) (λ y. Ok (to y.0, y.1)) x (sym (v.read_is extent bytes) ∙ e) in
-    let t = c.takes extent bytes a.0 fits a.1 in
-    let f = v.fits a.0.0 t.1 in
-    let same : c.spell a.0.0 ≡ spell (to a.0.0) = sym (v.spell_is (to a.0.0) ∙ ap c.spell f.1) in
-    let made : B × List ℕ = (to a.0.0, a.0.1) in
-    subst (λ (y : B × List ℕ). Takes bytes (spell y.0) y.1 × Fits y.0) (ok_is made x a.2) (subst (λ (s : List ℕ). Takes bytes s a.0.1) same t.0, f.0)
+module _ {A B : Type 0} (spell_first : A → List ℕ) (FitsFirst : A → Type 0) (read_first : Reader A) (to : A → B) (from : B → A) (spell : B → List ℕ) (Fits : B → Type 0) (read : Reader B)
+    (v : IsView spell_first FitsFirst read_first to from spell Fits read) where
+  pub view_takes : ((extent : Extent) (bytes : List ℕ) (x : A × List ℕ) → IsBytes bytes → read_first extent bytes ≡ Ok x → Takes bytes (spell_first x.0) x.1 × FitsFirst x.0)
+      → (extent : Extent) (bytes : List ℕ) (x : B × List ℕ) → IsBytes bytes → read extent bytes ≡ Ok x → Takes bytes (spell x.0) x.1 × Fits x.0
+  view_takes takes extent bytes x fits e =
+      let a = bind_ok (read_first extent bytes) (λ y. Ok (to y.0, y.1)) x (sym (v.read_is extent bytes) ∙ e) in
+      let t = takes extent bytes a.0 fits a.1 in
+      let f = v.fits a.0.0 t.1 in
+      let same : spell_first a.0.0 ≡ spell (to a.0.0) = sym (v.spell_is (to a.0.0) ∙ ap spell_first f.1) in
+      let made : B × List ℕ = (to a.0.0, a.0.1) in
+      subst (λ (y : B × List ℕ). Takes bytes (spell y.0) y.1 × Fits y.0) (ok_is made x a.2) (subst (λ (s : List ℕ). Takes bytes s a.0.1) same t.0, f.0)
 
-pub view_again : {A B : Type 0} (c : Codec A) (to : A → B) (from : B → A) (spell : B → List ℕ) (Fits : B → Type 0) (read : Reader B) (v : IsView c to from spell Fits read)
-    (extent : Extent) (x : B) (rest : List ℕ) → Fits x → read extent (spell x ++ rest) ≡ Ok (x, rest)
-view_again {A} {B} c to from spell Fits read v extent x rest fits =
-    let b = v.back x fits in
-    let one : read extent (spell x ++ rest) ≡ read extent (c.spell (from x) ++ rest) = ap (λ (s : List ℕ). read extent (s ++ rest)) (v.spell_is x) in
-    let two : (c.read extent (c.spell (from x) ++ rest) >>= λ y. Ok (to y.0, y.1)) ≡ Ok (to (from x), rest) = rw (c.again extent (from x) rest b.0) refl in
-    one ∙ v.read_is extent (c.spell (from x) ++ rest) ∙ two ∙ ap (λ (y : B). Ok (y, rest)) b.1
+  pub view_again : (extent : Extent) (x : B) (rest : List ℕ) → Fits x → read_first extent (spell_first (from x) ++ rest) ≡ Ok (from x, rest) → read extent (spell x ++ rest) ≡ Ok (x, rest)
+  view_again extent x rest fits again =
+      let one : read extent (spell x ++ rest) ≡ read extent (spell_first (from x) ++ rest) = ap (λ (s : List ℕ). read extent (s ++ rest)) (v.spell_is x) in
+      let two : (read_first extent (spell_first (from x) ++ rest) >>= λ y. Ok (to y.0, y.1)) ≡ Ok (to (from x), rest) = rw again refl in
+      one ∙ v.read_is extent (spell_first (from x) ++ rest) ∙ two ∙ ap (λ (y : B). Ok (y, rest)) (v.back x fits).1
 
-abbrev pub view : {A B : Type 0} → (c : Codec A) → (to : A → B) → (from : B → A) → (spell : B → List ℕ) → (Fits : B → Type 0) → (read : Reader B) → IsView c to from spell Fits read → Codec B
+  pub view_sure : ((extent : Extent) (bytes : List ℕ) → IsSure (read_first extent bytes)) → (extent : Extent) (bytes : List ℕ) → IsSure (read extent bytes)
+  view_sure sure extent bytes =
+      sure_along (read extent bytes) (read_first extent bytes >>= λ x. Ok (to x.0, x.1)) (v.read_is extent bytes) (sure_map (read_first extent bytes) (λ x. (to x.0, x.1)) (sure extent bytes))
+
+abbrev pub view : {A B : Type 0} → (c : Codec A) → (to : A → B) → (from : B → A) → (spell : B → List ℕ) → (Fits : B → Type 0) → (read : Reader B) → IsView c.spell c.Fits c.read to from spell Fits read → Codec B
 view c to from spell Fits read v = record {
   spell = spell;
   Fits = Fits;
   read = read;
-  takes = view_takes c to from spell Fits read v;
-  again = view_again c to from spell Fits read v;
-  sure = λ extent bytes. sure_along (read extent bytes) (c.read extent bytes >>= λ x. Ok (to x.0, x.1)) (v.read_is extent bytes) (sure_map (c.read extent bytes) (λ x. (to x.0, x.1)) (c.sure extent bytes));
+  takes = view_takes c.spell c.Fits c.read to from spell Fits read v c.takes;
+  again = λ extent x rest fits. view_again c.spell c.Fits c.read to from spell Fits read v extent x rest fits (c.again extent (from x) rest (v.back x fits).0);
+  sure = view_sure c.spell c.Fits c.read to from spell Fits read v c.sure;
 }

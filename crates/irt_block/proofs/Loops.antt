@@ -43,13 +43,13 @@ pub regroup : {A : Type 0} (front : List A) (n : A) (read : Result (List A × Li
 regroup {A} front n (Ok x) = ap (λ (ns : List A). Ok (ns, x.1)) (simp append_assoc)
 regroup front n (Err f) = refl
 
-pub goes_on : {A : Type 0} (item : Reader A) (front : List A) (count i : ℕ) (extent : Extent) (bytes : List ℕ) (n : A) (after : List ℕ) (total : Result (List A × List ℕ) BlockFault) → i < count → item extent bytes ≡ Ok (n, after)
-    → with_front front (repeat_at item (count - i) extent bytes) ≡ total → with_front (front ++ n ∷ []) (repeat_at item (count - (i + 1)) extent after) ≡ total
+pub goes_on : {A : Type 0} (item : Reader A) (front pushed : List A) (count i : ℕ) (extent : Extent) (bytes : List ℕ) (n : A) (after : List ℕ) (total : Result (List A × List ℕ) BlockFault) → pushed ≡ front ++ n ∷ [] → i < count → item extent bytes ≡ Ok (n, after)
+    → with_front front (repeat_at item (count - i) extent bytes) ≡ total → with_front pushed (repeat_at item (count - (i + 1)) extent after) ≡ total
 unfolding repeat_at
-goes_on item front count i extent bytes n after total lt h so_far =
+goes_on {A} item front pushed count i extent bytes n after total is lt h so_far =
     let k : count - i ≡ suc (count - (i + 1)) = omega arith in
     let one : with_front front (repeat_at item (count - i) extent bytes) ≡ with_front (front ++ n ∷ []) (repeat_at item (count - (i + 1)) extent after) = rw (k, h) (regroup front n (repeat_at item (count - (i + 1)) extent after)) in
-    sym one ∙ so_far
+    ap (λ (xs : List A). with_front xs (repeat_at item (count - (i + 1)) extent after)) is ∙ sym one ∙ so_far
 
 pub ends : {A : Type 0} (e : BlockFault) (item : Reader A) (front : List A) (count i : ℕ) (extent : Extent) (bytes : List ℕ) (total : Result (List A × List ℕ) BlockFault) → i < count → Fails e (item extent bytes)
     → with_front front (repeat_at item (count - i) extent bytes) ≡ total → Fails e total
