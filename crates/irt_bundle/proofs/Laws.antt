@@ -12,11 +12,11 @@ use Rattle.irt_block.specs.declared.fault.BlockFault.{BlockFault}
 use Rattle.irt_block.specs.declared.extent.Extent.{Extent}
 use Rattle.irt_block.specs.declared.header.BlockId.{BlockId}
 use Rattle.irt_block.specs.Reading.{◌>>=◌, Gives, spelled}
+use Rattle.byte_laws.specs.Spelling.{ReadingIsSpelling}
 use Rattle.irt_block.specs.Header.{header_bytes, block_bytes, whole_of}
-use Rattle.irt_block.proofs.Numbers.{IsBytes, two_bytes}
 use Rattle.irt_block.proofs.Rules.{given, both, spelled_size, zeros_size}
 use Rattle.irt_block.proofs.Codec.{Codec, number, padding, pair, pair_steps, view}
-use Rattle.irt_block.proofs.Blocks.{block, ended, whole_takes, length-header}
+use Rattle.irt_block.proofs.Blocks.{block, ended, whole_law, length-header}
 use Rattle.pd_blocks.specs.Global.{global_id, global_fields_bytes, global_bytes}
 use Rattle.pd_blocks.proofs.SyncLaws.{sync_codec, sync_fits_block}
 use Rattle.pd_blocks.proofs.GlobalLaws.{global_codec, global_fits_block, length-global}
@@ -42,8 +42,8 @@ Fields = Unit {0} × (ℕ × (ℕ × (GlobalBlock × (FrameBlock × PeriodBlock)
 abbrev pub fields : Codec Fields
 fields =
     pair (padding 2) (λ _.
-    pair (number 2 two_bytes) (λ _.
-    pair (number 2 two_bytes) (λ _.
+    pair (number 2) (λ _.
+    pair (number 2) (λ _.
     pair global_codec (λ _.
     pair frame_codec (λ _.
     periods_codec)))))
@@ -140,12 +140,6 @@ bundle_codec = view blocks to_bundle of_bundle bundle_bytes IsBundle bundle_in (
   back = λ b f. (bundle_back b f, refl);
 })
 
--- the bytes of PDIRData's fields, behind the place of its header
-pub data_written : (b : Bundle) (out : List ℕ) → IsBundle b → out ≡ replicate 6 0 ++ data_fields_bytes (data_of b) → length out < 65540
-data_written b out f e =
-    let size = ap length e ∙ length-append {A = ℕ} (replicate 6 0) (data_fields_bytes (data_of b)) in
-    omega (arith, size, length-data (data_of b) (data_valid b f))
-
-pub bundle_found : (bytes : List ℕ) (r : Result Bundle BlockFault) → IsBytes bytes → Gives (λ (x : Bundle). x) r (whole_of bundle_in bytes) → IfOk r (λ v. IsBundle v × (bytes ≡ bundle_bytes v))
-bundle_found bytes (Ok v) fits given = whole_takes bundle_codec bytes v fits given
-bundle_found bytes (Err e) fits given = tt
+-- reading a device file and spelling it are one
+pub bundle_law : ReadingIsSpelling (whole_of bundle_in) IsBundle bundle_bytes
+bundle_law = whole_law bundle_codec IsBundle (λ v f. f) (λ v f. f)

@@ -6,6 +6,7 @@
 //! project's own.
 #![tactic(auto)]
 
+pub mod law;
 mod reading;
 mod writing;
 

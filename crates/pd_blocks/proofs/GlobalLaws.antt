@@ -5,8 +5,8 @@ use Rattle.std.specs.List.{flat_map}
 use Rattle.std.proofs.lemmas.List.{length-append}
 use Rattle.irt_block.specs.declared.fault.BlockFault.{BlockFault}
 use Rattle.irt_block.specs.declared.extent.Extent.{Extent}
+use Rattle.byte_laws.specs.Spelling.{ReadingIsSpelling}
 use Rattle.irt_block.specs.Header.{whole_of}
-use Rattle.irt_block.proofs.Numbers.{IsBytes, four_bytes}
 use Rattle.irt_base.specs.declared.limits.TheConstants.{MAX_DELAY, MAX_PORTS}
 use Rattle.irt_base.specs.declared.blocks.PortDelay.{PortDelay}
 use Rattle.irt_base.specs.declared.blocks.GlobalBlock.{GlobalBlock}
@@ -14,7 +14,7 @@ use Rattle.irt_base.specs.Valid.{IsWithin, IsPortDelay, IsGlobalBlock}
 use Rattle.irt_block.specs.Reading.{◌>>=◌, Gives, spelled, within}
 use Rattle.irt_block.proofs.Rules.{within_rule, within_again, length-items, given, both, spelled_size, zeros_size}
 use Rattle.irt_block.proofs.Codec.{Codec, raw, ruled, padding, pair, pair_steps, repeat, view}
-use Rattle.irt_block.proofs.Blocks.{block, ended, whole_takes}
+use Rattle.irt_block.proofs.Blocks.{block, ended, whole_law}
 use Rattle.pd_blocks.specs.Global.{global_id, port_bytes, global_fields_bytes, global_bytes, port_at, global_fields_at, global_in}
 
 -- ---- a port
@@ -23,7 +23,7 @@ abbrev pub Delays : Type 0
 Delays = ℕ × ℕ
 
 abbrev pub delays : Codec Delays
-delays = pair (ruled 4 four_bytes (within 0 MAX_DELAY)) (λ _. ruled 4 four_bytes (within 0 MAX_DELAY))
+delays = pair (ruled 4 (within 0 MAX_DELAY)) (λ _. ruled 4 (within 0 MAX_DELAY))
 
 abbrev pub to_port : Delays → PortDelay
 to_port a = record { tx = a.0; rx = a.1 }
@@ -61,8 +61,8 @@ abbrev pub fields : Codec Fields
 fields =
     pair (padding 2) (λ _.
     pair (raw 16) (λ _.
-    pair (ruled 4 four_bytes (within 0 MAX_DELAY)) (λ _.
-    pair (ruled 4 four_bytes (within 1 MAX_PORTS)) (λ count.
+    pair (ruled 4 (within 0 MAX_DELAY)) (λ _.
+    pair (ruled 4 (within 1 MAX_PORTS)) (λ count.
     repeat port_codec count))))
 
 abbrev pub to_block : Fields → GlobalBlock
@@ -127,13 +127,6 @@ length-global b f =
 pub global_fits_block : (b : GlobalBlock) → IsGlobalBlock b → global_codec.Fits b
 global_fits_block b f = let n = f.count.1 in (f, omega (arith, length-global b f))
 
-pub global_found : (bytes : List ℕ) (r : Result GlobalBlock BlockFault) → IsBytes bytes → Gives (λ (x : GlobalBlock). x) r (whole_of global_in bytes) → IfOk r (λ v. IsGlobalBlock v × (bytes ≡ global_bytes v))
-global_found bytes (Ok v) fits given = let h = whole_takes global_codec bytes v fits given in (h.0.0, h.1)
-global_found bytes (Err e) fits given = tt
-
--- the bytes of a block's fields, behind the place of its header
-pub global_written : (v : GlobalBlock) (out : List ℕ) → IsGlobalBlock v → out ≡ replicate 6 0 ++ global_fields_bytes v → length out < 65540
-global_written v out f e =
-    let n = f.count.1 in
-    let size = ap length e ∙ length-append {A = ℕ} (replicate 6 0) (global_fields_bytes v) in
-    omega (arith, size, length-global v f)
+-- reading the block and spelling it are one
+pub global_law : ReadingIsSpelling (whole_of global_in) IsGlobalBlock global_bytes
+global_law = whole_law global_codec IsGlobalBlock (λ v f. f.0) global_fits_block

@@ -4,8 +4,8 @@ use Rattle.std.specs.Prelude.{replicate, IfOk}
 use Rattle.std.proofs.lemmas.List.{length-append}
 use Rattle.irt_block.specs.declared.fault.BlockFault.{BlockFault}
 use Rattle.irt_block.specs.declared.extent.Extent.{Extent}
+use Rattle.byte_laws.specs.Spelling.{ReadingIsSpelling}
 use Rattle.irt_block.specs.Header.{whole_of, header_bytes}
-use Rattle.irt_block.proofs.Numbers.{IsBytes, one_byte, two_bytes, four_bytes}
 use Rattle.irt_base.specs.declared.limits.TheConstants.{MAX_WINDOW, MAX_FACTOR, MAX_DOMAIN_NAME}
 use Rattle.irt_base.specs.declared.blocks.SyncBlock.{SyncBlock}
 use Rattle.irt_base.specs.Valid.{IsWithin, IsDomainByte, IsSyncBlock}
@@ -13,7 +13,7 @@ use Rattle.irt_block.specs.declared.bytes.ByteClass.TheVariants.{Letter}
 use Rattle.irt_block.specs.Reading.{◌>>=◌, Gives, spelled, within, is_of}
 use Rattle.irt_block.proofs.Rules.{within_rule, within_again, letter_rule, letter_again, all_so, Sized, given, both, spelled_size, zeros_size}
 use Rattle.irt_block.proofs.Codec.{Codec, raw, number, ruled, constant, of_class, padding, pair, pair_steps, view}
-use Rattle.irt_block.proofs.Blocks.{block, ended, whole_takes, length-header}
+use Rattle.irt_block.proofs.Blocks.{block, ended, whole_law, length-header}
 use Rattle.pd_blocks.specs.Sync.{sync_id, last_pad, sync_fields_bytes, sync_bytes, sync_fields_at, sync_in}
 
 abbrev pub Fields : Type 0
@@ -23,18 +23,18 @@ abbrev pub fields : Codec Fields
 fields =
     pair (padding 2) (λ _.
     pair (raw 16) (λ _.
-    pair (constant 4 0 four_bytes (lit< tt)) (λ _.
-    pair (constant 4 0 four_bytes (lit< tt)) (λ _.
-    pair (ruled 4 four_bytes (within 0 MAX_WINDOW)) (λ _.
-    pair (number 4 four_bytes) (λ _.
-    pair (ruled 2 two_bytes (within 1 MAX_FACTOR)) (λ _.
-    pair (number 2 two_bytes) (λ _.
-    pair (number 2 two_bytes) (λ _.
-    pair (number 2 two_bytes) (λ _.
-    pair (number 2 two_bytes) (λ _.
-    pair (number 1 one_byte) (λ _.
-    pair (number 1 one_byte) (λ _.
-    pair (ruled 1 one_byte (within 1 MAX_DOMAIN_NAME)) (λ letters.
+    pair (constant 4 0 (lit< tt)) (λ _.
+    pair (constant 4 0 (lit< tt)) (λ _.
+    pair (ruled 4 (within 0 MAX_WINDOW)) (λ _.
+    pair (number 4) (λ _.
+    pair (ruled 2 (within 1 MAX_FACTOR)) (λ _.
+    pair (number 2) (λ _.
+    pair (number 2) (λ _.
+    pair (number 2) (λ _.
+    pair (number 2) (λ _.
+    pair (number 1) (λ _.
+    pair (number 1) (λ _.
+    pair (ruled 1 (within 1 MAX_DOMAIN_NAME)) (λ letters.
     pair (of_class Letter letters) (λ _.
     padding (last_pad letters))))))))))))))))
 
@@ -139,16 +139,9 @@ length-sync b f = (sync_size b f).is
 pub sync_fits_block : (b : SyncBlock) → IsSyncBlock b → sync_codec.Fits b
 sync_fits_block b f = let n = f.name.1 in (f, omega (arith, length-sync b f))
 
-pub sync_found : (bytes : List ℕ) (r : Result SyncBlock BlockFault) → IsBytes bytes → Gives (λ (x : SyncBlock). x) r (whole_of sync_in bytes) → IfOk r (λ v. IsSyncBlock v × (bytes ≡ sync_bytes v))
-sync_found bytes (Ok v) fits given = let h = whole_takes sync_codec bytes v fits given in (h.0.0, h.1)
-sync_found bytes (Err e) fits given = tt
-
--- the bytes of a block's fields, behind the place of its header
-pub sync_written : (v : SyncBlock) (out : List ℕ) → IsSyncBlock v → out ≡ replicate 6 0 ++ sync_fields_bytes v → length out < 65540
-sync_written v out f e =
-    let n = f.name.1 in
-    let size = ap length e ∙ length-append {A = ℕ} (replicate 6 0) (sync_fields_bytes v) in
-    omega (arith, size, length-sync v f)
+-- reading the block and spelling it are one
+pub sync_law : ReadingIsSpelling (whole_of sync_in) IsSyncBlock sync_bytes
+sync_law = whole_law sync_codec IsSyncBlock (λ v f. f.0) sync_fits_block
 
 -- the padding makes the size a multiple of 4
 pub sync_whole : (v : SyncBlock) (out : List ℕ) → IsSyncBlock v → out ≡ sync_bytes v → length out % 4 ≡ 0

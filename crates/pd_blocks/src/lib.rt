@@ -4,6 +4,7 @@
 //! are this project's own.
 #![tactic(auto)]
 
+pub mod law;
 mod global;
 mod sync;
 

@@ -13,11 +13,11 @@ use Rattle.irt_base.specs.Valid.{IsWithin, IsPeriod, IsAssignment, IsPhasePair, 
 use Rattle.irt_block.specs.declared.fault.BlockFault.{BlockFault}
 use Rattle.irt_block.specs.declared.extent.Extent.{Extent}
 use Rattle.irt_block.specs.Reading.{◌>>=◌, Gives, spelled, within}
+use Rattle.byte_laws.specs.Spelling.{ReadingIsSpelling}
 use Rattle.irt_block.specs.Header.{whole_of}
-use Rattle.irt_block.proofs.Numbers.{IsBytes, two_bytes, four_bytes}
 use Rattle.irt_block.proofs.Rules.{within_rule, within_again, below_rule, below_again, all_so, length-items, length-items-most, given, both, spelled_size, zeros_size}
 use Rattle.irt_block.proofs.Codec.{Codec, number, ruled, constant, padding, pair, pair_steps, repeat, view}
-use Rattle.irt_block.proofs.Blocks.{block, ended, whole_takes}
+use Rattle.irt_block.proofs.Blocks.{block, ended, whole_law}
 use Rattle.pdir_begin_end.specs.Periods.{periods_id, period_bytes, assignment_bytes, phase_bytes, port_bytes, fields_bytes, periods_bytes, is_below, period_at, assignment_at, phase_at, port_at, fields_at, periods_in}
 
 -- ---- a period
@@ -26,7 +26,7 @@ abbrev pub Begins : Type 0
 Begins = ℕ × (ℕ × ℕ)
 
 abbrev pub begins : Codec Begins
-begins = pair (number 4 four_bytes) (λ _. pair (number 4 four_bytes) (λ _. number 4 four_bytes))
+begins = pair (number 4) (λ _. pair (number 4) (λ _. number 4))
 
 abbrev pub to_period : Begins → Period
 to_period a = record { red = a.0; orange = a.1.0; green = a.1.1 }
@@ -81,7 +81,7 @@ abbrev pub Numbers : Type 0
 Numbers = ℕ × ℕ
 
 abbrev pub numbers : ℕ → Codec Numbers
-numbers count = pair (ruled 2 two_bytes (is_below count)) (λ _. ruled 2 two_bytes (is_below count))
+numbers count = pair (ruled 2 (is_below count)) (λ _. ruled 2 (is_below count))
 
 abbrev pub to_phase : Numbers → PhasePair
 to_phase a = record { tx = a.0; rx = a.1 }
@@ -112,9 +112,9 @@ Port = ℕ × (List Assignment × (Unit {0} × List PhasePair))
 
 abbrev pub port_fields : Codec Port
 port_fields =
-    pair (ruled 4 four_bytes (within 1 MAX_ASSIGNMENTS)) (λ count.
+    pair (ruled 4 (within 1 MAX_ASSIGNMENTS)) (λ count.
     pair (repeat assignment_codec count) (λ _.
-    pair (constant 4 PHASES four_bytes (lit< tt)) (λ _.
+    pair (constant 4 PHASES (lit< tt)) (λ _.
     repeat (phase_codec count) PHASES)))
 
 abbrev pub to_port : Port → PortPeriods
@@ -175,9 +175,9 @@ Fields = Unit {0} × (ℕ × (ℕ × (ℕ × List PortPeriods)))
 abbrev pub fields : Codec Fields
 fields =
     pair (padding 2) (λ _.
-    pair (ruled 2 two_bytes (within MIN_FRAME MAX_RED_FRAME)) (λ first.
-    pair (ruled 2 two_bytes (within first MAX_RED_FRAME)) (λ _.
-    pair (ruled 4 four_bytes (within 1 MAX_PORTS)) (λ count.
+    pair (ruled 2 (within MIN_FRAME MAX_RED_FRAME)) (λ first.
+    pair (ruled 2 (within first MAX_RED_FRAME)) (λ _.
+    pair (ruled 4 (within 1 MAX_PORTS)) (λ count.
     repeat port_codec count))))
 
 abbrev pub to_block : Fields → PeriodBlock
@@ -260,12 +260,6 @@ length-block b f =
 pub periods_fit_block : (b : PeriodBlock) → IsPeriodBlock b → periods_codec.Fits b
 periods_fit_block b f = (f, omega (arith, length-block b f))
 
-pub periods_found : (bytes : List ℕ) (r : Result PeriodBlock BlockFault) → IsBytes bytes → Gives (λ (x : PeriodBlock). x) r (whole_of periods_in bytes) → IfOk r (λ v. IsPeriodBlock v × (bytes ≡ periods_bytes v))
-periods_found bytes (Ok v) fits given = let h = whole_takes periods_codec bytes v fits given in (h.0.0, h.1)
-periods_found bytes (Err e) fits given = tt
-
--- the bytes of a block's fields, behind the place of its header
-pub periods_written : (v : PeriodBlock) (out : List ℕ) → IsPeriodBlock v → out ≡ replicate 6 0 ++ fields_bytes v → length out < 65540
-periods_written v out f e =
-    let size = ap length e ∙ length-append {A = ℕ} (replicate 6 0) (fields_bytes v) in
-    omega (arith, size, length-block v f)
+-- reading the block and spelling it are one
+pub periods_law : ReadingIsSpelling (whole_of periods_in) IsPeriodBlock periods_bytes
+periods_law = whole_law periods_codec IsPeriodBlock (λ v f. f.0) periods_fit_block

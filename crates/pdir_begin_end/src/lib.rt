@@ -7,6 +7,7 @@
 //! IEC 61158-6-10; order, widths and limits of the fields are this project's own.
 #![tactic(auto)]
 
+pub mod law;
 mod port;
 mod reading;
 mod writing;

@@ -5,8 +5,8 @@ use Rattle.irt_base.specs.declared.limits.TheConstants.{MIN_FRAME, MAX_FRAME, MA
 use Rattle.irt_base.specs.declared.blocks.Entry.{Entry}
 use Rattle.irt_base.specs.Valid.{IsDataLength, IsRatio, IsEntry}
 use Rattle.irt_block.specs.declared.extent.Extent.{Extent}
-use Rattle.irt_block.specs.Reading.{◌>>=◌, within}
-use Rattle.irt_block.proofs.Numbers.{one_byte, two_bytes, four_bytes}
+use Rattle.irt_block.specs.Reading.{◌>>=◌, IsSure, within}
+use Rattle.irt_block.proofs.Steps.{sure_map, sure_along}
 use Rattle.irt_block.proofs.Codec.{Codec, number, ruled, constant, padding, pair, pair_steps, view}
 use Rattle.irt_block.proofs.Rules.{within_rule, within_again}
 use Rattle.pdir_frame.specs.declared.entry.TheConstants.{ETHERTYPE, FRAME_DETAILS, TX_PORT_GROUPS}
@@ -37,16 +37,16 @@ Fields = ℕ × (ℕ × (ℕ × (ℕ × (ℕ × (Unit {0} × (ℕ × (Unit {0} �
 
 abbrev pub fields : ℕ → Codec Fields
 fields least =
-    pair (number 4 four_bytes) (λ _.
-    pair (ruled 2 two_bytes is_data_length) (λ _.
-    pair (ruled 2 two_bytes is_ratio) (λ ratio.
-    pair (ruled 2 two_bytes (within 1 ratio)) (λ _.
-    pair (ruled 2 two_bytes (within least MAX_FRAME)) (λ _.
-    pair (constant 2 ETHERTYPE two_bytes (lit< tt)) (λ _.
-    pair (ruled 1 one_byte (within 0 MAX_PORTS)) (λ _.
-    pair (constant 1 FRAME_DETAILS one_byte (lit< tt)) (λ _.
-    pair (constant 1 TX_PORT_GROUPS one_byte (lit< tt)) (λ _.
-    pair (number 1 one_byte) (λ _.
+    pair (number 4) (λ _.
+    pair (ruled 2 is_data_length) (λ _.
+    pair (ruled 2 is_ratio) (λ ratio.
+    pair (ruled 2 (within 1 ratio)) (λ _.
+    pair (ruled 2 (within least MAX_FRAME)) (λ _.
+    pair (constant 2 ETHERTYPE (lit< tt)) (λ _.
+    pair (ruled 1 (within 0 MAX_PORTS)) (λ _.
+    pair (constant 1 FRAME_DETAILS (lit< tt)) (λ _.
+    pair (constant 1 TX_PORT_GROUPS (lit< tt)) (λ _.
+    pair (number 1) (λ _.
     padding 2))))))))))
 
 abbrev pub to_entry : Fields → Entry
@@ -134,6 +134,9 @@ entry_read least extent bytes =
     pair_steps _ _ extent port.1 _ _ (λ details.
     pair_steps _ _ extent details.1 _ _ (λ groups.
     pair_steps _ _ extent groups.1 _ _ (λ tx. refl))))))))))
+
+pub entry_sure : (least : ℕ) (extent : Extent) (bytes : List ℕ) → IsSure (entry_at least extent bytes)
+entry_sure least extent bytes = sure_along _ _ (entry_read least extent bytes) (sure_map ((fields least).read extent bytes) (λ x. (to_entry x.0, x.1)) ((fields least).sure extent bytes))
 
 pub entry_spell : (least : ℕ) (e : Entry) → entry_bytes e ≡ (fields least).spell (of_entry e)
 entry_spell least e = simp append_assoc

@@ -12,15 +12,17 @@ use Rattle.irt_base.specs.Valid.{IsEntry, IsFrameBlock, frames_of}
 use Rattle.irt_block.specs.declared.fault.BlockFault.{BlockFault}
 use Rattle.irt_block.specs.declared.extent.Extent.{Extent}
 use Rattle.std.specs.Prelude.{IfOk}
+use Rattle.byte_laws.specs.Spelling.{ReadingIsSpelling}
 use Rattle.irt_block.specs.Header.{whole_of}
-use Rattle.irt_block.specs.Reading.{◌>>=◌, Gives, spelled, within}
-use Rattle.irt_block.proofs.Numbers.{IsBytes, four_bytes, length-spelled}
-use Rattle.irt_block.proofs.Steps.{bind_ok, ok_is, chosen, Takes, Takes-then}
+use Rattle.irt_block.specs.Reading.{◌>>=◌, IsSure, spelled, within}
+use Rattle.irt_block.proofs.Numbers.{length-spelled}
+use Rattle.byte_laws.specs.Spelling.{IsBytes}
+use Rattle.irt_block.proofs.Steps.{bind_ok, done, ok_is, chosen, Takes, Takes-then, sure_ok, sure_if, sure_bind, sure_map}
 use Rattle.irt_block.proofs.Codec.{Codec, ruled, padding, pair_steps}
-use Rattle.irt_block.proofs.Blocks.{Body, before, block, body_view, whole_takes}
+use Rattle.irt_block.proofs.Blocks.{Body, before, block, body_view, whole_law}
 use Rattle.pdir_frame.specs.Frames.{frames_id, entry_bytes, properties_of, fields_bytes, frame_bytes, entry_at, entries_at, fields_at, frames_in}
 use Rattle.irt_block.proofs.Rules.{within_rule}
-use Rattle.pdir_frame.proofs.Entries.{entry_codec}
+use Rattle.pdir_frame.proofs.Entries.{entry_codec, entry_sure}
 
 -- ---- entries
 
@@ -83,6 +85,15 @@ entries_again (suc n) least from extent (e ∷ es) fits =
     let others = entries_again n (e.frame.0 + 1) (omega arith) extent es (record { count = omega arith; each = fits.each.1; ascends = fits.ascends.1 }) in
     ap (entries_at (suc n) least extent) cut ∙ rw (long, one, others) refl
 
+pub entries_sure : (n least : ℕ) (extent : Extent) (bytes : List ℕ) → IsSure (entries_at n least extent bytes)
+unfolding entries_at
+entries_sure zero least extent bytes = sure_ok ([], bytes)
+entries_sure (suc n) least extent bytes =
+    let more = λ (first : Entry × List ℕ). entries_at n (first.0.frame.0 + 1) extent first.1 >>= λ others. Ok (first.0 ∷ others.0, others.1) in
+    sure_if (length bytes == 0) (done ([], bytes)) (entry_at least extent bytes >>= more) (sure_ok ([], bytes))
+    (sure_bind (entry_at least extent bytes) more (entry_sure least extent bytes) (λ first.
+    sure_map (entries_at n (first.0.frame.0 + 1) extent first.1) (λ others. (first.0 ∷ others.0, others.1)) (entries_sure n (first.0.frame.0 + 1) extent first.1)))
+
 abbrev pub entries : (n least : ℕ) → MIN_FRAME ≤ least → Body (List Entry)
 entries n least from = record {
   spell = flat_map entry_bytes;
@@ -90,6 +101,7 @@ entries n least from = record {
   read = entries_at n least;
   takes = entries_takes n least from;
   again = entries_again n least from;
+  sure = entries_sure n least;
 }
 
 -- ---- ascending, by neighbours
@@ -125,7 +137,7 @@ abbrev pub Fields : Type 0
 Fields = Unit {0} × (ℕ × List Entry)
 
 abbrev pub fields : Body Fields
-fields = before (padding 2) (λ _. before (ruled 4 four_bytes (within 0 1)) (λ _. entries MAX_DEMANDS MIN_FRAME (lit≤ tt)))
+fields = before (padding 2) (λ _. before (ruled 4 (within 0 1)) (λ _. entries MAX_DEMANDS MIN_FRAME (lit≤ tt)))
 
 abbrev pub to_block : Fields → FrameBlock
 to_block a = record { relative = a.1.0 == 1; entries = a.1.1 }
@@ -191,13 +203,6 @@ length-fields b =
 pub frame_fits_block : (b : FrameBlock) → IsFrameBlock b → frame_codec.Fits b
 frame_fits_block b f = let n = f.count in (f, omega (arith, length-fields b))
 
-pub frame_found : (bytes : List ℕ) (r : Result FrameBlock BlockFault) → IsBytes bytes → Gives (λ (x : FrameBlock). x) r (whole_of frames_in bytes) → IfOk r (λ v. IsFrameBlock v × (bytes ≡ frame_bytes v))
-frame_found bytes (Ok v) fits given = let h = whole_takes frame_codec bytes v fits given in (h.0.0, h.1)
-frame_found bytes (Err e) fits given = tt
-
--- the bytes of a block's fields, behind the place of its header
-pub written_fits : (v : FrameBlock) (out : List ℕ) → IsFrameBlock v → out ≡ replicate 6 0 ++ fields_bytes v → length out < 65540
-written_fits v out f e =
-    let n = f.count in
-    let size = ap length e ∙ length-append {A = ℕ} (replicate 6 0) (fields_bytes v) in
-    omega (arith, size, length-fields v)
+-- reading the block and spelling it are one
+pub frame_law : ReadingIsSpelling (whole_of frames_in) IsFrameBlock frame_bytes
+frame_law = whole_law frame_codec IsFrameBlock (λ v f. f.0) frame_fits_block

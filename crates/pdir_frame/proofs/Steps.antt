@@ -15,10 +15,10 @@ entry_goes_on front n m least extent bytes e after total k more h so_far =
     let one : with_front front (entries_at n least extent bytes) ≡ with_front (front ++ e ∷ []) (entries_at m (e.frame.0 + 1) extent after) = rw (k, more, h) (regroup front e (entries_at m (e.frame.0 + 1) extent after)) in
     sym one ∙ so_far
 
-pub entry_ends : (fault : BlockFault) (front : List Entry) (n m least : ℕ) (extent : Extent) (bytes : List ℕ) (total : Result (List Entry × List ℕ) BlockFault) → n ≡ suc m → (length bytes == 0) ≡ false → Fails fault.kind fault (entry_at least extent bytes)
-    → with_front front (entries_at n least extent bytes) ≡ total → Fails fault.kind fault total
+pub entry_ends : (fault : BlockFault) (front : List Entry) (n m least : ℕ) (extent : Extent) (bytes : List ℕ) (total : Result (List Entry × List ℕ) BlockFault) → n ≡ suc m → (length bytes == 0) ≡ false → Fails fault (entry_at least extent bytes)
+    → with_front front (entries_at n least extent bytes) ≡ total → Fails fault total
 unfolding entries_at
-entry_ends fault front n m least extent bytes total k more h so_far = fails_on fault.kind fault (entry_at least extent bytes) total h (λ bad.
+entry_ends fault front n m least extent bytes total k more h so_far = fails_on fault (entry_at least extent bytes) total h (λ bad.
     let one : with_front front (entries_at n least extent bytes) ≡ Err fault = rw (k, more, bad) refl in
     sym so_far ∙ one)
 

@@ -8,6 +8,7 @@
 #![tactic(auto)]
 
 mod entry;
+pub mod law;
 mod reading;
 mod writing;
 

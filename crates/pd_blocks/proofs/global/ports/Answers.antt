@@ -1,23 +1,20 @@
-use Rattle.std.proofs.Common.{◌≡◌, ◌-◌, ◌+◌, ◌++◌, ◌∷◌, [], ap, ◌∙◌, arith}
+use Rattle.std.proofs.Common.{◌≡◌, ◌-◌, ◌+◌, ◌++◌, ◌∷◌, [], ap, ◌∙◌, arith, inr}
 use Rattle.std.proofs.lemmas.Result.{err_from_is_err_and}
-use Rattle.irt_block.specs.Reading.{repeat_at}
-use Rattle.irt_block.proofs.Loops.{with_front, goes_on, ends, is_done, fails_so}
+use Rattle.irt_block.proofs.Loops.{with_front, goes_on, ends, is_done}
 use Rattle.pd_blocks.specs.Global.{port_at}
 use Rattle.pd_blocks.proofs.global.ports.Goals as goal
 
 pub returns-in_err-item-clause-gives : goal.returns-in_err-item-clause-gives
 returns-in_err-item-clause-gives c =
     let p = err_from_is_err_and c.from_residual.result c.from_residual.ensures.1 in
-    rw (p.1, p.2) (ends c.in_err-item.field-0.0 port_at c.loop.ports c.args.count c.loop.counter c.args.extent c.loop.left.now _ c.loop-test.true (fails_so _ _ _ c.in_err-item.ensures.gives) c.loop.invariant.read)
+    rw (p.1, p.2) (ends c.in_err-item.field-0.0 port_at c.loop.ports c.args.count c.loop.counter c.args.extent c.loop.left.now _ c.loop-test.true (inr c.in_err-item.ensures.gives) c.loop.invariant.read)
 
 pub loop-preserved : goal.loop-preserved
 loop-preserved c =
-    let pushed : c.push.new.self ≡ c.loop.ports ++ c.in_ok-item.item ∷ [] = c.in_ok-push.ensures.ok in
-    let step = goes_on port_at c.loop.ports c.args.count c.loop.counter c.args.extent c.loop.left.now c.in_ok-item.item c.in_ok-item.after.now _ c.loop-test.true c.in_ok-item.ensures.gives c.loop.invariant.read in
     let shorter = c.in_ok-item.ensures.shorter in
     let before = c.loop.invariant.shorter in
     record {
-      read = ap (λ front. with_front front (repeat_at port_at (c.args.count - (c.loop.counter + 1)) c.args.extent c.in_ok-item.after.now)) pushed ∙ step;
+      read = goes_on port_at c.loop.ports c.push.new.self c.args.count c.loop.counter c.args.extent c.loop.left.now c.in_ok-item.item c.in_ok-item.after.now _ c.in_ok-push.ensures.ok c.loop-test.true c.in_ok-item.ensures.gives c.loop.invariant.read;
       shorter = omega arith;
     }
 

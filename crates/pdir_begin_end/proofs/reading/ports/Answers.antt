@@ -1,6 +1,5 @@
 use Rattle.std.proofs.Common.{◌≡◌, ◌-◌, ◌+◌, ◌++◌, ◌∷◌, [], ap, ◌∙◌, arith}
 use Rattle.std.proofs.lemmas.Result.{err_from_is_err_and}
-use Rattle.irt_block.specs.Reading.{repeat_at}
 use Rattle.irt_block.proofs.Loops.{with_front, goes_on, ends, is_done}
 use Rattle.pdir_begin_end.specs.Periods.{port_at}
 use Rattle.pdir_begin_end.proofs.reading.ports.Goals as goal
@@ -12,12 +11,10 @@ returns-in_err-item-clause-gives c =
 
 pub loop-preserved : goal.loop-preserved
 loop-preserved c =
-    let pushed : c.push.new.self ≡ c.loop.items ++ c.in_ok-item.item ∷ [] = c.in_ok-push.ensures.ok in
-    let step = goes_on port_at c.loop.items c.args.count c.loop.counter c.args.extent c.loop.left.now c.in_ok-item.item c.in_ok-item.after.now _ c.loop-test.true c.in_ok-item.ensures.gives c.loop.invariant.read in
     let shorter = c.in_ok-item.ensures.shorter in
     let before = c.loop.invariant.shorter in
     record {
-      read = ap (λ front. with_front front (repeat_at port_at (c.args.count - (c.loop.counter + 1)) c.args.extent c.in_ok-item.after.now)) pushed ∙ step;
+      read = goes_on port_at c.loop.items c.push.new.self c.args.count c.loop.counter c.args.extent c.loop.left.now c.in_ok-item.item c.in_ok-item.after.now _ c.in_ok-push.ensures.ok c.loop-test.true c.in_ok-item.ensures.gives c.loop.invariant.read;
       shorter = omega arith;
     }
 

@@ -1,8 +1,8 @@
-use Rattle.std.proofs.Common.{◌≡◌, ◌-◌, ◌+◌, ◌==◌, ◌++◌, ◌∷◌, [], suc, length, false, true, ap, ◌∙◌, arith}
+use Rattle.std.proofs.Common.{◌≡◌, ◌-◌, ◌+◌, ◌==◌, ◌++◌, ◌∷◌, [], suc, length, false, true, ap, ◌∙◌, arith, inr}
 use Rattle.std.proofs.lemmas.List.{length-append}
 use Rattle.std.proofs.lemmas.Result.{err_from_is_err_and}
 use Rattle.irt_base.specs.declared.limits.TheConstants.{MAX_DEMANDS}
-use Rattle.irt_block.proofs.Loops.{with_front, fails_so}
+use Rattle.irt_block.proofs.Loops.{with_front}
 use Rattle.pdir_frame.specs.Frames.{entries_at}
 use Rattle.pdir_frame.proofs.Steps.{entry_goes_on, entry_ends, entries_full, entries_out}
 use Rattle.pdir_frame.proofs.reading.entries.Goals as goal
@@ -13,7 +13,7 @@ returns-in_err-entry-clause-gives c =
     let p = err_from_is_err_and c.from_residual.result c.from_residual.ensures.1 in
     let room : MAX_DEMANDS - length c.loop-entries.entries ≡ suc (MAX_DEMANDS - length c.loop-entries.entries - 1) = omega (arith, c.len.ensures, c.if-len-lt-MAX_DEMANDS.true) in
     let more : (length c.loop-entries.left.now == 0) ≡ false = grind (arith, c.loop-entries-test.true, c.is_empty.ensures) in
-    rw (p.1, p.2) (entry_ends c.in_err-entry.field-0.0 c.loop-entries.entries _ _ c.loop-entries.least c.args.extent c.loop-entries.left.now _ room more (fails_so _ _ _ c.in_err-entry.ensures.gives) c.loop-entries.invariant.read)
+    rw (p.1, p.2) (entry_ends c.in_err-entry.field-0.0 c.loop-entries.entries _ _ c.loop-entries.least c.args.extent c.loop-entries.left.now _ room more (inr c.in_err-entry.ensures.gives) c.loop-entries.invariant.read)
 
 pub loop-entries-preserved : goal.loop-entries-preserved
 loop-entries-preserved c =

@@ -1,0 +1,15 @@
+//! Reading and spelling are one.
+
+ghost use Rattle.std.specs.Prelude.{List, ℕ};
+ghost use Rattle.byte_laws.specs.Spelling.{ReadingIsSpelling};
+ghost use Rattle.irt_block.specs.Reading.{IsSure};
+ghost use Rattle.irt_block.specs.Header.{whole_of};
+ghost use Rattle.irt_base.specs.Valid.{IsBundle};
+ghost use Rattle.irt_bundle.specs.Bundles.{bundle_in, bundle_bytes};
+
+/// The law of device files, said of lists without memory: they are read exactly where they
+/// are spelled, and a refusal is of the bytes.
+pub fn reading_is_spelling()
+    ensures one { ReadingIsSpelling (whole_of bundle_in) IsBundle bundle_bytes }
+    ensures sure { (bytes : List ℕ) → IsSure (whole_of bundle_in bytes) }
+{}
