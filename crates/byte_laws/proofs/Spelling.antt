@@ -1,7 +1,11 @@
 -- Reading and spelling are one where what is read is spelled so, and what is spelled is read back.
-use Rattle.std.proofs.Common.{◌≡◌, ℕ, ◌<◌, List, Result, Ok, Err, refl, sym, ap, ◌∙◌}
+use Rattle.std.proofs.Common.{◌≡◌, ℕ, ◌<◌, List, Option, Some, None, Result, Ok, Err, refl, sym, ap, ◌∙◌}
 use Rattle.std.specs.Prelude.{IsErr}
-use Rattle.byte_laws.specs.Spelling.{IsBytes, ReadingIsSpelling}
+use Rattle.byte_laws.specs.Spelling.{IsBytes, unless_fault, ReadingIsSpelling}
+
+pub no_fault_found : {A E : Type 0} (fault : Option E) (value v : A) → unless_fault fault value ≡ Ok v → (fault ≡ None) × (value ≡ v)
+no_fault_found None value v e = (refl, cc)
+no_fault_found (Some f) value v e = absurd cc
 
 err_is_not : {A E : Type 0} (r : Result A E) (v : A) → IsErr r → r ≡ Ok v → ⊥
 err_is_not (Ok x) v bad e = absurd cc

@@ -1,8 +1,13 @@
 -- What it is that reading bytes and spelling values are one.
-use Rattle.std.specs.Prelude.{◌≡◌, ℕ, ◌<◌, ◌↔◌, List, get_or, Result, Ok, IsErr}
+use Rattle.std.specs.Prelude.{◌≡◌, ℕ, ◌<◌, ◌↔◌, List, get_or, Option, Some, None, Result, Ok, Err, IsErr}
 
 abbrev pub IsBytes : List ℕ → Type 0
 IsBytes bytes = (i : ℕ) → get_or bytes i 0 < 256
+
+-- a value, unless a fault was found
+abbrev pub unless_fault : {A E : Type 0} → Option E → A → Result A E
+unless_fault None value = Ok value
+unless_fault (Some fault) value = Err fault
 
 -- For a function that reads the whole of a list, what values are valid, and how they are spelled. Of bytes
 -- it reads a value exactly where they are the spelling of that value and it is valid.

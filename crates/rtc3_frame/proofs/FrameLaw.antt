@@ -1,36 +1,18 @@
 -- Bytes that no fault is found in are a frame with the fields at their places, and a frame's bytes have its
 -- fields at their places.
-use Rattle.std.proofs.Common.{◌≡◌, ◌<◌, ◌≤◌, ℕ, ◌+◌, ◌-◌, ◌/◌, ◌%◌, ◌^◌, true, List, [], ◌∷◌, ◌++◌, length, take, drop, slice_index, get_or, None, refl, sym, ◌∙◌, ap, arith, length-append, length-drop, ◌==◌, lit<}
+use Rattle.std.proofs.Common.{◌≡◌, ◌<◌, ◌≤◌, ℕ, ◌+◌, ◌-◌, ◌/◌, ◌%◌, ◌^◌, true, List, [], ◌∷◌, ◌++◌, length, take, drop, slice_index, get_or, None, Ok, refl, sym, ◌∙◌, ap, arith, length-append, length-drop, ◌==◌, lit<}
 use Rattle.std.proofs.lemmas.List.{take_at, drop_at, take-append-drop, drop-drop, get_or-drop, length-take-le}
 use Rattle.std.proofs.lemmas.Bool.Decides.{nat_tests}
 use Rattle.byteorder.specs.Endian.{big_bytes, big_number}
-use Rattle.byteorder.specs.Numbers.{big_number-reads_back, big_from-lt}
+use Rattle.byteorder.specs.Numbers.{big_number-reads_back}
+use Rattle.byte_laws.specs.Spelling.{IsBytes, ReadingIsSpelling}
+use Rattle.byte_laws.proofs.Spelling.{one_spelling, no_fault_found}
+use Rattle.byte_laws.proofs.Words.{IsBytes-drop, word-lt, cut_at, word_at}
 use Rattle.irt_base.specs.Valid.{IsDataLength, IsWithin}
 use Rattle.rtc3_frame.specs.declared.frame.TheConstants.{ETHERTYPE}
 use Rattle.std.proofs.Common.{subst}
-use Rattle.rtc3_frame.specs.Frame.{Fields, frame_bytes, fields_at, Spells}
+use Rattle.rtc3_frame.specs.Frame.{Fields, frame_bytes, placed_fields, fields_at, IsFrame, Spells, sent_fields}
 use Rattle.rtc3_frame.specs.Fault.{fault_of, length_fits, ethertype_fits, frame_fits, transfer_fits}
-
-abbrev AreBytes : List ℕ → Type 0
-AreBytes xs = (k : ℕ) → slice_index xs k < 256
-
--- two bytes are the bytes of the number that they are read as
-two_back : (xs : List ℕ) → 2 ≤ length xs → AreBytes xs → take 2 xs ≡ big_bytes 2 (big_number 2 xs)
-two_back [] long small = absurd (omega arith)
-two_back (a ∷ []) long small = absurd (omega arith)
-two_back (a ∷ b ∷ xs) long small =
-    let first : a < 256 = small 0 in
-    let second : b < 256 = small 1 in
-    let high : a ≡ big_number 2 (a ∷ b ∷ xs) / 256 % 256 = omega arith in
-    let low : b ≡ big_number 2 (a ∷ b ∷ xs) % 256 = omega arith in cc
-
-cut_at : (n m : ℕ) (xs : List ℕ) → drop n xs ≡ take m (drop n xs) ++ drop (n + m) xs
-cut_at n m xs = sym (take-append-drop m (drop n xs)) ∙ ap (λ r. take m (drop n xs) ++ r) (drop-drop m n xs)
-
-two_at : (n : ℕ) (xs : List ℕ) → n + 2 ≤ length xs → AreBytes xs → drop n xs ≡ big_bytes 2 (big_number 2 (drop n xs)) ++ drop (n + 2) xs
-two_at n xs long small =
-    let small_rest : AreBytes (drop n xs) = λ k. rw (get_or-drop n xs k 0) (small (n + k)) in
-    cut_at n 2 xs ∙ ap (λ h. h ++ drop (n + 2) xs) (two_back (drop n xs) (omega (arith, length-drop n xs)) small_rest)
 
 two_items : (xs : List ℕ) → length xs ≡ 2 → xs ≡ get_or xs 0 0 ∷ get_or xs 1 0 ∷ []
 two_items [] e = absurd (omega arith)
@@ -45,8 +27,8 @@ last_two xs n long =
     let second : get_or (drop n xs) 1 0 ≡ get_or xs (n + 1) 0 = get_or-drop n xs 1 0 in
     let all = two_items (drop n xs) (omega (arith, length-drop n xs)) in cc
 
-laid_out : (bytes : List ℕ) → AreBytes bytes → 20 ≤ length bytes → big_number 2 (drop 12 bytes) ≡ ETHERTYPE →
-    slice_index bytes (length bytes - 1) ≡ 0 → bytes ≡ frame_bytes (fields_at bytes)
+laid_out : (bytes : List ℕ) → IsBytes bytes → 20 ≤ length bytes → big_number 2 (drop 12 bytes) ≡ ETHERTYPE →
+    slice_index bytes (length bytes - 1) ≡ 0 → bytes ≡ frame_bytes (placed_fields bytes)
 laid_out bytes small long ethertype transfer =
     let csdu : ℕ = length bytes - 20 in
     let end : 16 + csdu ≡ length bytes - 4 = omega arith in
@@ -54,12 +36,12 @@ laid_out bytes small long ethertype transfer =
     let very_last : length bytes - 2 + 1 ≡ length bytes - 1 = omega arith in
     let at_0 : bytes ≡ take 6 bytes ++ drop 6 bytes = sym (take-append-drop 6 bytes) in
     let at_6 : drop 6 bytes ≡ take 6 (drop 6 bytes) ++ drop 12 bytes = cut_at 6 6 bytes in
-    let at_12 : drop 12 bytes ≡ big_bytes 2 (big_number 2 (drop 12 bytes)) ++ drop 14 bytes = two_at 12 bytes (omega arith) small in
-    let at_14 : drop 14 bytes ≡ big_bytes 2 (big_number 2 (drop 14 bytes)) ++ drop 16 bytes = two_at 14 bytes (omega arith) small in
+    let at_12 : drop 12 bytes ≡ big_bytes 2 (big_number 2 (drop 12 bytes)) ++ drop 14 bytes = word_at 2 12 bytes (omega arith) small in
+    let at_14 : drop 14 bytes ≡ big_bytes 2 (big_number 2 (drop 14 bytes)) ++ drop 16 bytes = word_at 2 14 bytes (omega arith) small in
     let at_16 : drop 16 bytes ≡ take csdu (drop 16 bytes) ++ drop (length bytes - 4) bytes =
     cut_at 16 csdu bytes ∙ ap (λ n. take csdu (drop 16 bytes) ++ drop n bytes) end in
     let at_end : drop (length bytes - 4) bytes ≡ big_bytes 2 (big_number 2 (drop (length bytes - 4) bytes)) ++ drop (length bytes - 2) bytes =
-    two_at (length bytes - 4) bytes (omega arith) small
+    word_at 2 (length bytes - 4) bytes (omega arith) small
     ∙ ap (λ n. big_bytes 2 (big_number 2 (drop (length bytes - 4) bytes)) ++ drop n bytes) last in
     let at_last : drop (length bytes - 2) bytes ≡ slice_index bytes (length bytes - 2) ∷ 0 ∷ [] =
     last_two bytes (length bytes - 2) (omega arith)
@@ -106,20 +88,19 @@ eqb_is a b e = grind (arith, nat_tests)
 is_eqb : (a b : ℕ) → a ≡ b → (a == b) ≡ true
 is_eqb a b e = grind (arith, nat_tests)
 
-pub read_fields : (bytes : List ℕ) → AreBytes bytes → fault_of bytes ≡ None → Spells bytes (fields_at bytes)
+pub read_fields : (bytes : List ℕ) → IsBytes bytes → fault_of bytes ≡ None → Spells bytes (placed_fields bytes)
 read_fields bytes small none =
     let passed = no_fault bytes none in
     let long : 20 ≤ length bytes = omega (arith, passed.0) in
     let long_csdu : length (take (length bytes - 20) (drop 16 bytes)) ≡ length bytes - 20 =
     length-take-le (length bytes - 20) (drop 16 bytes) (omega (arith, length-drop 16 bytes)) in
-    let end_small : AreBytes (drop (length bytes - 4) bytes) = λ k. rw (get_or-drop (length bytes - 4) bytes k 0) (small (length bytes - 4 + k)) in
     let Fit : ℕ → Type 0 = λ n. IsDataLength n in record {
       valid = record {
         destination = length-take-le 6 bytes (omega arith);
         source = length-take-le 6 (drop 6 bytes) (omega (arith, length-drop 6 bytes));
         frame = frame_is (big_number 2 (drop 14 bytes)) passed.3;
         csdu = subst Fit (sym long_csdu) (csdu_length_is (length bytes) passed.0 passed.1);
-        counter = big_from-lt 0 2 (drop (length bytes - 4) bytes) end_small;
+        counter = word-lt 2 (drop (length bytes - 4) bytes) (IsBytes-drop (length bytes - 4) bytes small);
         status = small (length bytes - 2);
       };
       layout =
@@ -184,7 +165,7 @@ module _ (bytes : List ℕ) (f : Fields) (spells : Spells bytes f) where
   byte_at : (k n : ℕ) → length bytes - 4 + k ≡ n → slice_index bytes n ≡ slice_index after_csdu k
   byte_at k n is = ap (slice_index bytes) (sym is) ∙ sym (get_or-drop (length bytes - 4) bytes k 0) ∙ ap (λ l. slice_index l k) from_end
 
-  pub fields_are : fields_at bytes ≡ f
+  pub fields_are : placed_fields bytes ≡ f
   unfolding after_csdu after_frame after_ethertype after_source after_destination
   fields_are =
       let destination : take 6 bytes ≡ f.destination =
@@ -212,3 +193,22 @@ module _ (bytes : List ℕ) (f : Fields) (spells : Spells bytes f) where
       (is_eqb (big_number 2 (drop 12 bytes)) ETHERTYPE ethertype)
       (frame_in_range (big_number 2 (drop 14 bytes)) (subst Within (sym frame) spells.valid.frame))
       (is_eqb (slice_index bytes (length bytes - 1)) 0 transfer)
+
+pub frame_again : (f : Fields) → IsFrame f → fields_at (frame_bytes f) ≡ Ok f
+frame_again f valid =
+    let spells : Spells (frame_bytes f) f = record { valid = valid; layout = refl } in
+    rw (fault_none (frame_bytes f) f spells, fields_are (frame_bytes f) f spells) refl
+
+-- reading a frame and spelling it are one
+pub frame_law : ReadingIsSpelling fields_at IsFrame frame_bytes
+frame_law =
+    one_spelling fields_at IsFrame frame_bytes (λ bytes f are_bytes e.
+    let found = no_fault_found (fault_of bytes) (placed_fields bytes) f e in
+    let spells : Spells bytes f = subst (λ (g : Fields). Spells bytes g) found.1 (read_fields bytes are_bytes found.0) in
+    (spells.valid, spells.layout)) frame_again
+
+-- what a device sends is a frame
+pub sent_is_frame : (frame device : ℕ) (csdu : List ℕ) (counter status : ℕ) → IsWithin 256 4095 frame → IsDataLength (length csdu) → counter < 2 ^ 16 → status < 2 ^ 8 →
+    IsFrame (sent_fields frame device csdu counter status)
+sent_is_frame frame device csdu counter status in_class fits counter_fits status_fits =
+    record { destination = refl; source = refl; frame = in_class; csdu = fits; counter = counter_fits; status = status_fits }

@@ -1,10 +1,13 @@
 -- A frame of RT_CLASS_3 as it is laid out.
-use Rattle.std.specs.Prelude.{◌≡◌, ℕ, ◌<◌, ◌^◌, List, [], ◌∷◌, ◌++◌, length, take, drop, slice_index, ◌+◌, ◌-◌}
+use Rattle.std.specs.Prelude.{◌≡◌, ℕ, ◌<◌, ◌^◌, List, [], ◌∷◌, ◌++◌, length, take, drop, slice_index, ◌+◌, ◌-◌, Result}
 use Rattle.byteorder.specs.Endian.{big_bytes, big_number}
+use Rattle.byte_laws.specs.Spelling.{unless_fault}
 use Rattle.irt_base.specs.Valid.{IsWithin, IsDataLength}
 use Rattle.irt_base.specs.declared.limits.TheConstants.{MIN_FRAME, MAX_RED_FRAME}
 use Rattle.rtc3_frame.specs.declared.frame.TheConstants.{ETHERTYPE, HEAD, TAIL}
+use Rattle.rtc3_frame.specs.declared.fault.FrameFault.{FrameFault}
 use Rattle.rtc3_frame.specs.declared.frame.Rtc3.{Rtc3}
+use Rattle.rtc3_frame.specs.Fault.{fault_of}
 
 -- the fields that are read or written; addresses and data are bytes
 pub record Fields : Type 0 where
@@ -22,8 +25,8 @@ frame_bytes f =
     ++ (f.source ++ (big_bytes 2 ETHERTYPE ++ (big_bytes 2 f.frame ++ (f.csdu ++ (big_bytes 2 f.counter ++ f.status ∷ 0 ∷ [])))))
 
 -- the fields at their places of so many bytes
-abbrev pub fields_at : List ℕ → Fields
-fields_at bytes = record {
+abbrev pub placed_fields : List ℕ → Fields
+placed_fields bytes = record {
   destination = take 6 bytes;
   source = take 6 (drop 6 bytes);
   frame = big_number 2 (drop 14 bytes);
@@ -31,6 +34,10 @@ fields_at bytes = record {
   counter = big_number 2 (drop (length bytes - TAIL) bytes);
   status = slice_index bytes (length bytes - 2);
 }
+
+-- the fields of the frame that bytes are, or the first cause for which they are none
+abbrev pub fields_at : List ℕ → Result Fields FrameFault
+fields_at bytes = unless_fault (fault_of bytes) (placed_fields bytes)
 
 -- which fields a frame may have
 pub record IsFrame (f : Fields) : Type 0 where

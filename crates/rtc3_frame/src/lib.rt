@@ -18,6 +18,7 @@
 pub mod fault;
 pub mod frame;
 pub mod frames;
+pub mod law;
 pub mod read;
 pub mod write;
 

@@ -1,7 +1,7 @@
 //! Reading a frame.
 
-ghost use Rattle.std.specs.Prelude.{◌≡◌, ◌≤◌, ◌+◌, length, take, Some, None, IfOk, IsOkAnd, MatchResult};
-ghost use Rattle.rtc3_frame.specs.Frame.{Fields, IsFrame, Spells, fields_of, fields_at};
+ghost use Rattle.std.specs.Prelude.{◌≡◌, ◌≤◌, ◌+◌, length, take, Ok, Err, IfOk, IsOkAnd, MatchResult};
+ghost use Rattle.rtc3_frame.specs.Frame.{Fields, Spells, fields_of, placed_fields, fields_at};
 ghost use Rattle.rtc3_frame.specs.Fault.{fault_of, length_fits, frame_fits};
 
 use crate::fault::FrameFault;
@@ -12,9 +12,12 @@ use irt_base::numbers::FrameId;
 
 /// Reads a frame, without copying its data. The addresses are given as they stand.
 pub fn read_rtc3(bytes: &[u8]) -> Result<Rtc3<'_>, FrameFault>
-    ensures laid_out { IfOk result (λ r. Spells bytes.now (fields_of r)) }
-    ensures fault { MatchResult result (λ _. fault_of bytes.now ≡ None) (λ e. fault_of bytes.now ≡ Some e) }
+    // What is read is a frame, and laid out so.
+    ensures found { IfOk result (λ r. Spells bytes.now (fields_of r)) }
+    // What is laid out so is read.
     ensures only { (f : Fields) → Spells bytes.now f → IsOkAnd result (λ r. fields_of r ≡ f) }
+    // The fields at their places, or the first cause.
+    ensures exact { MatchResult result (λ r. fields_at bytes.now ≡ Ok (fields_of r)) (λ e. fields_at bytes.now ≡ Err e) }
 {
     match fault(bytes) {
         Some(fault) => Err(fault),
@@ -63,7 +66,7 @@ fn frame_fits(frame: u16) -> bool
 /// The fields at their places.
 fn fields(bytes: &[u8]) -> Rtc3<'_>
     requires { HEAD + TAIL ≤ length bytes.now }
-    ensures { fields_of result ≡ fields_at bytes.now }
+    ensures { fields_of result ≡ placed_fields bytes.now }
 {
     let end = bytes.len() - TAIL;
     Rtc3 {

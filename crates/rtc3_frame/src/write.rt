@@ -1,8 +1,8 @@
 //! Writing a frame.
 
-ghost use Rattle.std.specs.Prelude.{◌≡◌, ◌+◌, length};
+ghost use Rattle.std.specs.Prelude.{◌≡◌, ◌+◌, length, Ok};
 ghost use Rattle.irt_base.specs.Valid.{IsWithin, IsDataLength};
-ghost use Rattle.rtc3_frame.specs.Frame.{IsFrame, frame_bytes, sent_fields, head_bytes, tail_bytes};
+ghost use Rattle.rtc3_frame.specs.Frame.{IsFrame, frame_bytes, fields_at, sent_fields, head_bytes, tail_bytes};
 
 use crate::frame::{ETHERTYPE, HEAD, TAIL};
 use byteorder::{BigEndian, ByteOrder};
@@ -21,9 +21,11 @@ pub fn write_rtc3(
     requires { length out.old ≡ length csdu.now + (HEAD + TAIL) }
     ensures bytes { out.new ≡ frame_bytes (sent_fields frame.0 source.0 csdu.now counter status) }
 
-    // So reading gives back what was written.
+    // A frame of valid fields reads back as these.
     ensures valid { IsWithin MIN_FRAME MAX_RED_FRAME frame.0 → IsDataLength (length csdu.now) →
         IsFrame (sent_fields frame.0 source.0 csdu.now counter status) }
+    ensures back { IsWithin MIN_FRAME MAX_RED_FRAME frame.0 → IsDataLength (length csdu.now) →
+        fields_at out.new ≡ Ok (sent_fields frame.0 source.0 csdu.now counter status) }
 {
     let end = HEAD + csdu.len();
     out[..HEAD].copy_from_slice(&head(frame, source));

@@ -1,7 +1,8 @@
 use Rattle.std.proofs.Common.{length, ap, sym, ◌∙◌, ◌≡◌, ◌++◌, arith}
 use Rattle.std.proofs.lemmas.List.{length-take-le}
+use Rattle.rtc3_frame.proofs.FrameLaw.{frame_again, sent_is_frame}
 use Rattle.rtc3_frame.proofs.WriteLaw.{pieces}
-use Rattle.rtc3_frame.specs.Frame.{head_bytes, tail_bytes}
+use Rattle.rtc3_frame.specs.Frame.{fields_at, sent_fields, head_bytes, tail_bytes}
 use Rattle.rtc3_frame.proofs.write.write_rtc3.Goals as goal
 
 pub copy_from_slice-requires : goal.copy_from_slice-requires
@@ -20,3 +21,9 @@ returns-clause-bytes c =
     ∙ ap (λ l. l ++ (middle ++ tail)) head_is
     ∙ ap (λ l. head_bytes c.args.frame.0 c.args.source.0 ++ (l ++ tail)) middle_is
     ∙ ap (λ l. head_bytes c.args.frame.0 c.args.source.0 ++ (csdu ++ l)) tail_is
+
+pub returns-clause-back : goal.returns-clause-back
+returns-clause-back c = λ in_class fits.
+    let sent = sent_fields c.args.frame.0 c.args.source.0 c.args.csdu.now c.args.counter c.args.status in
+    ap fields_at (returns-clause-bytes c)
+    ∙ frame_again sent (sent_is_frame c.args.frame.0 c.args.source.0 c.args.csdu.now c.args.counter c.args.status in_class fits (omega arith) (omega arith))
