@@ -1,5 +1,5 @@
 -- Bytes that no fault is found in are a message's, and a message's bytes have its fields at their places.
-use Rattle.std.proofs.Common.{◌≡◌, ℕ, zero, suc, ◌+◌, ◌≤◌, ◌<◌, ◌^◌, ◌==◌, List, [], ◌∷◌, ◌++◌, length, take, drop, slice_index, Option, Some, None, ◌⊎◌, inl, inr, refl, sym, ◌∙◌, ap, subst, arith, length-drop, Bool, true, false, if◌then◌else◌}
+use Rattle.std.proofs.Common.{◌≡◌, ℕ, zero, suc, ◌+◌, ◌≤◌, ◌<◌, ◌^◌, ◌==◌, List, [], ◌∷◌, ◌++◌, length, take, drop, slice_index, Option, Some, None, Ok, ◌⊎◌, inl, inr, refl, sym, ◌∙◌, ap, subst, arith, length-drop, Bool, true, false, if◌then◌else◌}
 use Rattle.ptcp_core.specs.declared.messages.MsgFault.{MsgFault}
 use Rattle.ptcp_core.specs.declared.messages.MsgFault.TheVariants.{Empty, BadType}
 use Rattle.std.specs.Int.{w16, w32, w64, from_be_bytes}
@@ -7,78 +7,14 @@ use Rattle.std.proofs.lemmas.List.{take-append-drop, drop-drop, drop_all, get_or
 use Rattle.std.proofs.lemmas.Nat.{be_bytes_2, be_bytes_4, be_bytes_8}
 use Rattle.std.proofs.lemmas.Bool.Decides.{nat_tests}
 use Rattle.byteorder.specs.Endian.{big_bytes, big_number}
-use Rattle.byteorder.specs.Numbers.{big_number-reads_back, big_from-lt}
+use Rattle.byteorder.specs.Numbers.{big_number-reads_back}
+use Rattle.byte_laws.specs.Spelling.{IsBytes, ReadingIsSpelling}
+use Rattle.byte_laws.proofs.Spelling.{one_spelling, no_fault_found}
+use Rattle.byte_laws.proofs.Words.{IsBytes-drop, word-lt, word_at, last_word_at}
 use Rattle.ptcp_core.specs.declared.messages.TheConstants.{TIME_END}
 use Rattle.ptcp_core.specs.declared.messages.Msg.{Msg}
 use Rattle.ptcp_core.specs.declared.messages.Msg.TheVariants as kinds
-use Rattle.ptcp_core.specs.Messages.{Spells, msg_fault, sync_fault, request_fault, response_fault, msg_at, sync_at, request_at, response_at}
-
-abbrev AreBytes : List ℕ → Type 0
-AreBytes xs = (k : ℕ) → slice_index xs k < 256
-
-take_small : (n : ℕ) (xs : List ℕ) → AreBytes xs → AreBytes (take n xs)
-take_small zero xs small k = omega arith
-take_small (suc n) [] small k = omega arith
-take_small (suc n) (x ∷ xs) small zero = small 0
-take_small (suc n) (x ∷ xs) small (suc k) = take_small n xs (λ j. small (suc j)) k
-
-drop_small : (n : ℕ) (xs : List ℕ) → AreBytes xs → AreBytes (drop n xs)
-drop_small n xs small k = rw (get_or-drop n xs k 0) (small (n + k))
-
--- the first bytes are the bytes of the number that they are read as
-two_back : (xs : List ℕ) → 2 ≤ length xs → AreBytes xs → take 2 xs ≡ big_bytes 2 (big_number 2 xs)
-two_back xs long small =
-    let is : big_number 2 xs ≡ from_be_bytes w16 (take 2 xs) = omega (arith, get_or-take 2 xs 0 0 (omega arith), get_or-take 2 xs 1 0 (omega arith)) in
-    sym (be_bytes_2 (take 2 xs) (big_number 2 xs) (length-take-le 2 xs long) (take_small 2 xs small) is)
-
-four_back : (xs : List ℕ) → 4 ≤ length xs → AreBytes xs → take 4 xs ≡ big_bytes 4 (big_number 4 xs)
-four_back xs long small =
-    let at = λ (i : ℕ) (h : i < 4). get_or-take 4 xs i 0 h in
-    let is : big_number 4 xs ≡ from_be_bytes w32 (take 4 xs) =
-    omega (arith, at 0 (omega arith), at 1 (omega arith), at 2 (omega arith), at 3 (omega arith)) in
-    sym (be_bytes_4 (take 4 xs) (big_number 4 xs) (length-take-le 4 xs long) (take_small 4 xs small) is)
-
-eight_back : (xs : List ℕ) → 8 ≤ length xs → AreBytes xs → take 8 xs ≡ big_bytes 8 (big_number 8 xs)
-eight_back xs long small =
-    let at = λ (i : ℕ) (h : i < 8). get_or-take 8 xs i 0 h in
-    let is : big_number 8 xs ≡ from_be_bytes w64 (take 8 xs) =
-    omega (
-      arith,
-      at 0 (omega arith),
-      at 1 (omega arith),
-      at 2 (omega arith),
-      at 3 (omega arith),
-      at 4 (omega arith),
-      at 5 (omega arith),
-      at 6 (omega arith),
-      at 7 (omega arith),
-    ) in
-    sym (be_bytes_8 (take 8 xs) (big_number 8 xs) (length-take-le 8 xs long) (take_small 8 xs small) is)
-
-cut_at : (n m : ℕ) (xs : List ℕ) → drop n xs ≡ take m (drop n xs) ++ drop (n + m) xs
-cut_at n m xs = sym (take-append-drop m (drop n xs)) ∙ ap (λ r. take m (drop n xs) ++ r) (drop-drop m n xs)
-
-two_at : (n : ℕ) (xs : List ℕ) → n + 2 ≤ length xs → AreBytes xs → drop n xs ≡ big_bytes 2 (big_number 2 (drop n xs)) ++ drop (n + 2) xs
-two_at n xs long small =
-    cut_at n 2 xs ∙ ap (λ h. h ++ drop (n + 2) xs) (two_back (drop n xs) (omega (arith, length-drop n xs)) (drop_small n xs small))
-
-four_at : (n : ℕ) (xs : List ℕ) → n + 4 ≤ length xs → AreBytes xs → drop n xs ≡ big_bytes 4 (big_number 4 (drop n xs)) ++ drop (n + 4) xs
-four_at n xs long small =
-    cut_at n 4 xs ∙ ap (λ h. h ++ drop (n + 4) xs) (four_back (drop n xs) (omega (arith, length-drop n xs)) (drop_small n xs small))
-
-eight_at : (n : ℕ) (xs : List ℕ) → n + 8 ≤ length xs → AreBytes xs → drop n xs ≡ big_bytes 8 (big_number 8 (drop n xs)) ++ drop (n + 8) xs
-eight_at n xs long small =
-    cut_at n 8 xs ∙ ap (λ h. h ++ drop (n + 8) xs) (eight_back (drop n xs) (omega (arith, length-drop n xs)) (drop_small n xs small))
-
-eight_last : (n : ℕ) (xs : List ℕ) → length xs ≡ n + 8 → AreBytes xs → drop n xs ≡ big_bytes 8 (big_number 8 (drop n xs))
-eight_last n xs long small =
-    eight_at n xs (omega arith) small ∙ ap (λ r. big_bytes 8 (big_number 8 (drop n xs)) ++ r) (drop_all (n + 8) xs (omega arith))
-    ∙ append-nil (big_bytes 8 (big_number 8 (drop n xs)))
-
-two_last : (n : ℕ) (xs : List ℕ) → length xs ≡ n + 2 → AreBytes xs → drop n xs ≡ big_bytes 2 (big_number 2 (drop n xs))
-two_last n xs long small =
-    two_at n xs (omega arith) small ∙ ap (λ r. big_bytes 2 (big_number 2 (drop n xs)) ++ r) (drop_all (n + 2) xs (omega arith))
-    ∙ append-nil (big_bytes 2 (big_number 2 (drop n xs)))
+use Rattle.ptcp_core.specs.Messages.{IsMsg, Spells, msg_fault, sync_fault, request_fault, response_fault, placed_msg, msg_at, msg_bytes, sync_at, request_at, response_at}
 
 front_two : (xs : List ℕ) → 2 ≤ length xs → xs ≡ slice_index xs 0 ∷ slice_index xs 1 ∷ drop 2 xs
 front_two [] long = absurd (omega arith)
@@ -92,8 +28,8 @@ front_four (a ∷ b ∷ []) long = absurd (omega arith)
 front_four (a ∷ b ∷ c ∷ []) long = absurd (omega arith)
 front_four (a ∷ b ∷ c ∷ d ∷ xs) long = refl
 
-number_fits : (n k : ℕ) (xs : List ℕ) → AreBytes xs → big_number n (drop k xs) < 256 ^ n
-number_fits n k xs small = big_from-lt 0 n (drop k xs) (drop_small k xs small)
+number_fits : (n k : ℕ) (bytes : List ℕ) → IsBytes bytes → big_number n (drop k bytes) < 256 ^ n
+number_fits n k bytes fits = word-lt n (drop k bytes) (IsBytes-drop k bytes fits)
 
 pick : (none a b c : Bool) (s q r : Option MsgFault) →
     (if none then Some Empty else if a then s else if b then q else if c then r else Some BadType) ≡ None →
@@ -130,16 +66,16 @@ no_response_fault : (bytes : List ℕ) → response_fault bytes ≡ None →
     (length bytes ≡ 20) × (slice_index bytes 1 ≡ 0) × ((response_at bytes).t2 < TIME_END) × ((response_at bytes).t3 < TIME_END)
 no_response_fault bytes e = grind (arith, nat_tests)
 
-at_sync : (bytes : List ℕ) → slice_index bytes 0 ≡ 1 → msg_at bytes ≡ kinds.Sync (sync_at bytes)
+at_sync : (bytes : List ℕ) → slice_index bytes 0 ≡ 1 → placed_msg bytes ≡ kinds.Sync (sync_at bytes)
 at_sync bytes e = grind (arith, nat_tests)
 
-at_request : (bytes : List ℕ) → slice_index bytes 0 ≡ 2 → msg_at bytes ≡ kinds.Request (request_at bytes)
+at_request : (bytes : List ℕ) → slice_index bytes 0 ≡ 2 → placed_msg bytes ≡ kinds.Request (request_at bytes)
 at_request bytes e = grind (arith, nat_tests)
 
-at_response : (bytes : List ℕ) → slice_index bytes 0 ≡ 3 → msg_at bytes ≡ kinds.Response (response_at bytes)
+at_response : (bytes : List ℕ) → slice_index bytes 0 ≡ 3 → placed_msg bytes ≡ kinds.Response (response_at bytes)
 at_response bytes e = grind (arith, nat_tests)
 
-read_sync : (bytes : List ℕ) → AreBytes bytes → slice_index bytes 0 ≡ 1 → sync_fault bytes ≡ None → Spells bytes (kinds.Sync (sync_at bytes))
+read_sync : (bytes : List ℕ) → IsBytes bytes → slice_index bytes 0 ≡ 1 → sync_fault bytes ≡ None → Spells bytes (kinds.Sync (sync_at bytes))
 read_sync bytes small kind none =
     let ok = no_sync_fault bytes none in
     let long : length bytes ≡ 28 = ok.0 in record {
@@ -151,15 +87,15 @@ read_sync bytes small kind none =
           ∙ ap (λ b. 1 ∷ slice_index bytes 1 ∷ b ∷ slice_index bytes 3 ∷ drop 4 bytes) ok.1
           ∙ ap (λ b. 1 ∷ slice_index bytes 1 ∷ 0 ∷ b ∷ drop 4 bytes) ok.2
           ∙ ap (λ l. 1 ∷ slice_index bytes 1 ∷ 0 ∷ 0 ∷ l)
-          (four_at 4 bytes (omega arith) small
+          (word_at 4 4 bytes (omega arith) small
           ∙ ap (λ l. big_bytes 4 (big_number 4 (drop 4 bytes)) ++ l)
-          (four_at 8 bytes (omega arith) small
+          (word_at 4 8 bytes (omega arith) small
           ∙ ap (λ l. big_bytes 4 (big_number 4 (drop 8 bytes)) ++ l)
-          (eight_at 12 bytes (omega arith) small
-          ∙ ap (λ l. big_bytes 8 (big_number 8 (drop 12 bytes)) ++ l) (eight_last 20 bytes long small))));
+          (word_at 8 12 bytes (omega arith) small
+          ∙ ap (λ l. big_bytes 8 (big_number 8 (drop 12 bytes)) ++ l) (last_word_at 8 20 bytes long small))));
     }
 
-read_request : (bytes : List ℕ) → AreBytes bytes → slice_index bytes 0 ≡ 2 → request_fault bytes ≡ None →
+read_request : (bytes : List ℕ) → IsBytes bytes → slice_index bytes 0 ≡ 2 → request_fault bytes ≡ None →
     Spells bytes (kinds.Request (request_at bytes))
 read_request bytes small kind none =
     let ok = no_request_fault bytes none in
@@ -168,10 +104,10 @@ read_request bytes small kind none =
       sized = number_fits 2 2 bytes small;
       layout =
           front_two bytes (omega arith) ∙ ap (λ b. b ∷ slice_index bytes 1 ∷ drop 2 bytes) kind ∙ ap (λ b. 2 ∷ b ∷ drop 2 bytes) ok.1
-          ∙ ap (λ l. 2 ∷ 0 ∷ l) (two_last 2 bytes long small);
+          ∙ ap (λ l. 2 ∷ 0 ∷ l) (last_word_at 2 2 bytes long small);
     }
 
-read_response : (bytes : List ℕ) → AreBytes bytes → slice_index bytes 0 ≡ 3 → response_fault bytes ≡ None →
+read_response : (bytes : List ℕ) → IsBytes bytes → slice_index bytes 0 ≡ 3 → response_fault bytes ≡ None →
     Spells bytes (kinds.Response (response_at bytes))
 read_response bytes small kind none =
     let ok = no_response_fault bytes none in
@@ -181,13 +117,13 @@ read_response bytes small kind none =
       layout =
           front_two bytes (omega arith) ∙ ap (λ b. b ∷ slice_index bytes 1 ∷ drop 2 bytes) kind ∙ ap (λ b. 3 ∷ b ∷ drop 2 bytes) ok.1
           ∙ ap (λ l. 3 ∷ 0 ∷ l)
-          (two_at 2 bytes (omega arith) small
+          (word_at 2 2 bytes (omega arith) small
           ∙ ap (λ l. big_bytes 2 (big_number 2 (drop 2 bytes)) ++ l)
-          (eight_at 4 bytes (omega arith) small
-          ∙ ap (λ l. big_bytes 8 (big_number 8 (drop 4 bytes)) ++ l) (eight_last 12 bytes long small)));
+          (word_at 8 4 bytes (omega arith) small
+          ∙ ap (λ l. big_bytes 8 (big_number 8 (drop 4 bytes)) ++ l) (last_word_at 8 12 bytes long small)));
     }
 
-pub read_law : (bytes : List ℕ) → AreBytes bytes → msg_fault bytes ≡ None → Spells bytes (msg_at bytes)
+pub read_law : (bytes : List ℕ) → IsBytes bytes → msg_fault bytes ≡ None → Spells bytes (placed_msg bytes)
 read_law bytes small none =
     let Spelled : Msg → Type 0 = λ m. Spells bytes m in
     elim (fault_kind bytes none) [
@@ -210,7 +146,7 @@ response_free : (bytes : List ℕ) → slice_index bytes 0 ≡ 3 → length byte
     (response_at bytes).t2 < TIME_END → (response_at bytes).t3 < TIME_END → msg_fault bytes ≡ None
 response_free bytes a b c d e = grind (arith, nat_tests)
 
-pub spelled : (bytes : List ℕ) (m : Msg) → Spells bytes m → (msg_fault bytes ≡ None) × (msg_at bytes ≡ m)
+pub spelled : (bytes : List ℕ) (m : Msg) → Spells bytes m → (msg_fault bytes ≡ None) × (placed_msg bytes ≡ m)
 spelled bytes (kinds.Sync m) s =
     let is = s.layout in
     let kind : slice_index bytes 0 ≡ 1 = ap (λ l. slice_index l 0) is in
@@ -250,3 +186,16 @@ spelled bytes (kinds.Response m) s =
       response_free bytes kind (ap length is) (ap (λ l. slice_index l 1) is) (subst Time (sym t2) s.times.0) (subst Time (sym t3) s.times.1),
       at_response bytes kind ∙ (λ i. kinds.Response (record { number = number i; t2 = t2 i; t3 = t3 i })),
     )
+
+msg_again : (m : Msg) → IsMsg m → msg_at (msg_bytes m) ≡ Ok m
+msg_again m valid =
+    let read = spelled (msg_bytes m) m (record { times = valid.0; sized = valid.1; layout = refl }) in
+    rw (read.0, read.1) refl
+
+-- reading a message and spelling it are one
+pub msg_law : ReadingIsSpelling msg_at IsMsg msg_bytes
+msg_law =
+    one_spelling msg_at IsMsg msg_bytes (λ bytes m are_bytes e.
+    let found = no_fault_found (msg_fault bytes) (placed_msg bytes) m e in
+    let spells : Spells bytes m = subst (λ (n : Msg). Spells bytes n) found.1 (read_law bytes are_bytes found.0) in
+    ((spells.times, spells.sized), spells.layout)) msg_again

@@ -1,6 +1,7 @@
 -- Messages as they are laid out, and why bytes are none.
-use Rattle.std.specs.Prelude.{◌≡◌, ℕ, ◌<◌, ◌^◌, ◌==◌, Bool, ◌&&◌, nat_lt, if◌then◌else◌, List, ◌∷◌, ◌++◌, length, drop, slice_index, Option, Some, None}
+use Rattle.std.specs.Prelude.{◌≡◌, ℕ, ◌<◌, ◌^◌, ◌==◌, Bool, ◌&&◌, nat_lt, if◌then◌else◌, List, ◌∷◌, ◌++◌, length, drop, slice_index, Option, Some, None, Result}
 use Rattle.byteorder.specs.Endian.{big_bytes, big_number}
+use Rattle.byte_laws.specs.Spelling.{unless_fault}
 use Rattle.ptcp_core.specs.declared.messages.TheConstants.{TIME_END, SYNC, REQUEST, RESPONSE, SYNC_SIZE, REQUEST_SIZE, RESPONSE_SIZE}
 use Rattle.ptcp_core.specs.declared.messages.SyncMsg.{SyncMsg}
 use Rattle.ptcp_core.specs.declared.messages.DelayReq.{DelayReq}
@@ -38,6 +39,10 @@ AreSized (kinds.Sync m) = (m.hops < 2 ^ 8) × (m.number < 2 ^ 32) × (m.cycle < 
 AreSized (kinds.Request m) = m.number < 2 ^ 16
 AreSized (kinds.Response m) = m.number < 2 ^ 16
 
+-- its fields have their ranges
+abbrev pub IsMsg : Msg → Type 0
+IsMsg m = AreTimes m × AreSized m
+
 -- these bytes are the message's
 pub record Spells (bytes : List ℕ) (m : Msg) : Type 0 where
   pub times : AreTimes m
@@ -60,8 +65,8 @@ request_at bytes = record { number = big_number 2 (drop 2 bytes) }
 abbrev pub response_at : List ℕ → DelayRes
 response_at bytes = record { number = big_number 2 (drop 2 bytes); t2 = big_number 8 (drop 4 bytes); t3 = big_number 8 (drop 12 bytes) }
 
-abbrev pub msg_at : List ℕ → Msg
-msg_at bytes =
+abbrev pub placed_msg : List ℕ → Msg
+placed_msg bytes =
     if slice_index bytes 0 == SYNC then kinds.Sync (sync_at bytes) else
     if slice_index bytes 0 == REQUEST then kinds.Request (request_at bytes) else
     kinds.Response (response_at bytes)
@@ -94,3 +99,7 @@ msg_fault bytes =
     if slice_index bytes 0 == REQUEST then request_fault bytes else
     if slice_index bytes 0 == RESPONSE then response_fault bytes else
     Some BadType
+
+-- the message that bytes are, or the first cause for which they are none
+abbrev pub msg_at : List ℕ → Result Msg MsgFault
+msg_at bytes = unless_fault (msg_fault bytes) (placed_msg bytes)

@@ -7,6 +7,7 @@
 #![tactic(auto)]
 
 pub mod honest;
+pub mod law;
 pub mod master;
 pub mod messages;
 pub mod read;

@@ -1,7 +1,7 @@
 //! Reading a message.
 
-ghost use Rattle.std.specs.Prelude.{◌≡◌, ◌≤◌, length, Some, None, IfOk, IsOkAnd, MatchResult};
-ghost use Rattle.ptcp_core.specs.Messages.{Spells, msg_fault, sync_fault, request_fault, response_fault, msg_at, sync_at, request_at, response_at};
+ghost use Rattle.std.specs.Prelude.{◌≡◌, ◌≤◌, length, None, IfOk, IsOkAnd};
+ghost use Rattle.ptcp_core.specs.Messages.{Spells, msg_fault, sync_fault, request_fault, response_fault, placed_msg, msg_at, sync_at, request_at, response_at};
 ghost use Rattle.ptcp_core.specs.declared.messages.Msg.{Msg as MsgValue};
 
 use crate::messages::{
@@ -12,9 +12,12 @@ use byteorder::{BigEndian, ByteOrder};
 
 /// Reads a message, which is all of the bytes.
 pub fn read_msg(bytes: &[u8]) -> Result<Msg, MsgFault>
-    ensures laid_out { IfOk result (Spells bytes.now) }
-    ensures fault { MatchResult result (λ _. msg_fault bytes.now ≡ None) (λ e. msg_fault bytes.now ≡ Some e) }
+    // What is read is a message, and laid out so.
+    ensures found { IfOk result (Spells bytes.now) }
+    // What is laid out so is read.
     ensures only { (m : MsgValue) → Spells bytes.now m → IsOkAnd result (λ r. r ≡ m) }
+    // The fields at their places, or the first cause.
+    ensures exact { result ≡ msg_at bytes.now }
 {
     match fault(bytes) {
         Some(fault) => Err(fault),
@@ -84,7 +87,7 @@ fn fault_of_response(bytes: &[u8]) -> Option<MsgFault>
 /// The message of bytes without a fault.
 fn fields(bytes: &[u8]) -> Msg
     requires { msg_fault bytes.now ≡ None }
-    ensures { result ≡ msg_at bytes.now }
+    ensures { result ≡ placed_msg bytes.now }
 {
     if bytes[0] == SYNC {
         Msg::Sync(sync(bytes))

@@ -7,8 +7,8 @@ use Rattle.ptcp_core.proofs.read.read_msg.Goals as goal
 pub returns-in-Some-clause-only : goal.returns-in-Some-clause-only
 returns-in-Some-clause-only c = λ m spells. let none = (spelled c.args.bytes.now m spells).0 in absurd (cc (none, c.in-Some.ensures))
 
-pub returns-in-None-clause-laid_out : goal.returns-in-None-clause-laid_out
-returns-in-None-clause-laid_out c =
+pub returns-in-None-clause-found : goal.returns-in-None-clause-found
+returns-in-None-clause-found c =
     let Laid : Msg → Type 0 = λ m. Spells c.args.bytes.now m in
     subst Laid (sym c.fields.ensures) (read_law c.args.bytes.now (λ k. omega (arith, c.type_inv.bytes k)) (sym c.in-None.ensures))
 
