@@ -1,1 +1,2 @@
 pub mod SentLaw
+pub mod SentOrder

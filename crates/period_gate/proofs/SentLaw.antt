@@ -7,7 +7,7 @@ use Rattle.irt_base.specs.declared.plants.Class.TheVariants.{Orange, Green}
 use Rattle.period_gate.specs.declared.parcels.Parcel.{Parcel}
 use Rattle.period_gate.specs.declared.parcels.Sent.{Sent}
 use Rattle.period_gate.specs.Gate.{Waiting, queue_of, begin_of, without_head, sent_by, head_sent, first_of_two, next_sent, left_after}
-use Rattle.period_gate.specs.SentList.{left_of, end_from, WouldEnd, GivesWay, IsSentNext, IsSentFrom, IsSentList, Gives}
+use Rattle.period_gate.specs.SentList.{left_of, end_from, WouldEnd, GivesWay, IsSentNext, IsSentFrom, IsSentList, Gives, first_and_more, sent_in, sent_of}
 
 -- what the head of a class, if there is one, is sent as
 pub record IsSentHead (kind : Class) (start limit : ℕ) (head : Option Parcel) (one : Sent) : Type 0 where
@@ -70,7 +70,7 @@ as_next kind w time one h gives =
     let own = subst Head (sym h.kind_is) h in
     record { head = own.head_is; start = own.start_is; end = own.end_is; in_time = own.in_time; gives_way = subst Way (sym h.kind_is) gives }
 
-next-is : (w : Waiting) (time : ℕ) (one : Sent) → next_sent w time ≡ Some one → IsSentNext w time one
+pub next-is : (w : Waiting) (time : ℕ) (one : Sent) → next_sent w time ≡ Some one → IsSentNext w time one
 next-is w time one e =
     elim (two-is (head_sent Orange w time) (head_sent Green w time) one e) [
       | inl o ↦ as_next Orange w time one (head-is Orange _ _ _ one o) tt
@@ -163,17 +163,33 @@ fewer : (kind : Class) (w : Waiting) (p : Parcel) → slice_get (queue_of kind w
 fewer Orange w p e = omega (arith, drop_first w.orange p e)
 fewer Green w p e = omega (arith, drop_first w.green p e)
 
-some_list_at : (n : ℕ) (w : Waiting) (time : ℕ) (o : Option Sent) → next_sent w time ≡ o → length w.orange + length w.green ≤ n →
-    (sent : List Sent) × Gives w time sent (left_of w sent)
-some_list_at n w time None e few = ([], (e, refl))
-some_list_at zero w time (Some one) e few =
+nothing_more : (w : Waiting) (time : ℕ) (o : Option Sent) → next_sent w time ≡ o → length w.orange + length w.green ≤ 0 → o ≡ None
+nothing_more w time None e few = refl
+nothing_more w time (Some one) e few =
     let less = fewer one.«class» w one.parcel (next-is w time one e).head in absurd (omega arith)
-some_list_at (suc n) w time (Some one) e few =
-    let less = fewer one.«class» w one.parcel (next-is w time one e).head in
-    let after = without_head one.«class» w in
-    let rest = some_list_at n after one.end (next_sent after one.end) refl (omega arith) in (one ∷ rest.0, (e, rest.1))
 
-pub some_list : (w : Waiting) → (sent : List Sent) × IsSentList w sent
-some_list w =
-    let made = some_list_at (length w.orange + length w.green) w 0 (next_sent w 0) refl (omega arith) in
-    (made.0, gives-is made.0 w 0 (left_of w made.0) made.1)
+-- so many calls give the whole list
+gives_in : (calls : ℕ) (w : Waiting) (time : ℕ) → length w.orange + length w.green ≤ calls →
+    Gives w time (sent_in calls w time) (left_of w (sent_in calls w time))
+gives_in zero w time few = (nothing_more w time (next_sent w time) refl few, refl)
+gives_in (suc calls) w time few =
+    let More : Sent → List Sent = λ one. sent_in calls (without_head one.«class» w) one.end in
+    let P : Option Sent → Type 0 = λ o. Gives w time (first_and_more o More) (left_of w (first_and_more o More)) in
+    let step : (o : Option Sent) → next_sent w time ≡ o → P o =
+    λ o. elim o as (λ o. next_sent w time ≡ o → P o) [
+      | None ↦ λ e. (e, refl)
+      | Some one ↦ λ e. let less = fewer one.«class» w one.parcel (next-is w time one e).head in
+          (e, gives_in calls (without_head one.«class» w) one.end (omega arith))
+    ] in step (next_sent w time) refl
+
+pub sent_of-is : (w : Waiting) → IsSentList w (sent_of w)
+sent_of-is w = gives-is (sent_of w) w 0 (left_of w (sent_of w)) (gives_in (length w.orange + length w.green) w 0 (omega arith))
+
+rest_gives : (done rest : List Sent) (w : Waiting) (time : ℕ) (last : Waiting) → Gives w time (done ++ rest) last →
+    next_sent (left_of w done) (end_from time done) ≡ slice_get rest 0
+rest_gives [] [] w time last h = h.0
+rest_gives [] (one ∷ more) w time last h = h.0
+rest_gives (one ∷ done) rest w time last h = rest_gives done rest (without_head one.«class» w) one.end last h.1
+
+pub next-rest : (w : Waiting) (done rest : List Sent) → IsSentList w (done ++ rest) → next_sent (left_of w done) (end_from 0 done) ≡ slice_get rest 0
+next-rest w done rest h = rest_gives done rest w 0 (left_of w (done ++ rest)) (is-gives (done ++ rest) w 0 h)

@@ -1,6 +1,7 @@
 -- Which parcels a port sends in a cycle: four conditions on the whole list.
-use Rattle.std.specs.Prelude.{◌≡◌, ℕ, ◌+◌, ◌≤◌, max, List, [], ◌∷◌, ◌++◌, slice_get, Some, None}
+use Rattle.std.specs.Prelude.{◌≡◌, ℕ, zero, suc, ◌+◌, ◌<◌, ◌≤◌, max, Bool, true, false, List, [], ◌∷◌, ◌++◌, length, map, filter, slice_get, Option, Some, None, All, AllPairs}
 use Rattle.irt_base.specs.Cycle.{parcel_time}
+use Rattle.irt_base.specs.declared.blocks.Period.{Period}
 use Rattle.irt_base.specs.declared.plants.Class.{Class}
 use Rattle.irt_base.specs.declared.plants.Class.TheVariants.{Orange, Green}
 use Rattle.period_gate.specs.declared.parcels.Parcel.{Parcel}
@@ -53,3 +54,36 @@ abbrev pub Gives : Waiting → ℕ → List Sent → Waiting → Type 0
 Gives waiting time [] last = (next_sent waiting time ≡ None) × (last ≡ left_after None waiting)
 Gives waiting time (one ∷ more) last =
     (next_sent waiting time ≡ Some one) × Gives (left_after (Some one) waiting) one.end more last
+
+abbrev pub first_and_more : Option Sent → (Sent → List Sent) → List Sent
+first_and_more None more = []
+first_and_more (Some one) more = one ∷ more one
+
+-- what at most so many calls of `next` give from a time on
+abbrev pub sent_in : ℕ → Waiting → ℕ → List Sent
+sent_in zero waiting time = []
+sent_in (suc calls) waiting time = first_and_more (next_sent waiting time) (λ one. sent_in calls (without_head one.«class» waiting) one.end)
+
+-- the list of a cycle: every call but the last takes one of the parcels that wait
+abbrev pub sent_of : Waiting → List Sent
+sent_of waiting = sent_in (length waiting.orange + length waiting.green) waiting 0
+
+-- The parcel starts at its class's begin or later, and it ends by the limit.
+pub record IsTimed (period : Period) (limit : ℕ) (one : Sent) : Type 0 where
+  pub opens : begin_of one.«class» period ≤ one.start
+  pub rises : one.start < one.end
+  pub closes : one.end ≤ limit
+
+-- Each parcel of the list is sent in its time, and after those that stand before it have ended.
+pub record AreInOrder (waiting : Waiting) (sent : List Sent) : Type 0 where
+  pub each : All (IsTimed waiting.period waiting.limit) sent
+  pub in_turn : AllPairs (λ one later. one.end ≤ later.start) sent
+
+abbrev pub is_same_class : Class → Class → Bool
+is_same_class Orange Orange = true
+is_same_class Green Green = true
+is_same_class _ _ = false
+
+-- the parcels of a class that were sent, in their order
+abbrev pub sent_parcels : Class → List Sent → List Parcel
+sent_parcels kind sent = map (λ (one : Sent). one.parcel) (filter (λ (one : Sent). is_same_class kind one.«class») sent)

@@ -1,6 +1,6 @@
 //! The gate of a port.
 
-ghost use Rattle.std.specs.Prelude.{◌≡◌, ◌↔◌, ◌∷◌, ◌++◌, [], max, length, IfOk};
+ghost use Rattle.std.specs.Prelude.{◌≡◌, ◌↔◌, ◌∷◌, ◌++◌, ◌≤◌, [], max, length, IfOk};
 ghost use Rattle.irt_base.specs.Cycle.{parcel_time};
 
 use crate::parcels::{Offered, Parcel, Sent};
@@ -60,6 +60,14 @@ impl Gate {
     {
         self.period = period;
         self.limit = limit;
+    }
+
+    /// How many parcels of a class wait: at most `QUEUE_ROOM`, whoever the gate was lent to.
+    pub fn waiting(&self, class: Class) -> usize
+        ensures count { result ≡ length (queue_of class self.now) }
+        ensures room { result ≤ QUEUE_ROOM }
+    {
+        self.queue(class).len()
     }
 
     /// Offers a parcel. It is refused where `QUEUE_ROOM` parcels of its class wait, which changes

@@ -13,6 +13,7 @@ mod queue;
 pub mod sent_list;
 
 pub use gates::Gate;
+pub use queue::QUEUE_ROOM;
 
 #[cfg(test)]
 mod tests;

@@ -54,6 +54,7 @@ fn a_class_holds_32(rt: HostRuntime) -> Result<(), Fail> {
     }
     assert_eq!(rt; gate.offer(Class::Orange, parcel(32, 60)), Offered::Full);
     assert_eq!(rt; gate.offer(Class::Green, parcel(0, 60)), Offered::Queued);
+    assert_eq!(rt; (gate.waiting(Class::Orange), gate.waiting(Class::Green)), (32, 1));
     gate.begin(PERIOD, 998000);
     assert!(rt; gate.next(0).is_some());
     assert_eq!(rt; gate.offer(Class::Orange, parcel(33, 60)), Offered::Queued);
@@ -76,15 +77,5 @@ fn a_short_green_parcel_passes_a_long_orange_one(rt: HostRuntime) -> Result<(), 
         let sent = gate.next(0).map(|s| (s.class, s.start, s.end));
         assert_eq!(rt; sent, first, "at {limit}");
     }
-    Ok(())
-}
-
-#[test]
-fn a_late_time_does_not_wrap(rt: HostRuntime) -> Result<(), Fail> {
-    let mut gate = Gate::new(rt.alloc())?;
-    let _ = gate.offer(Class::Orange, parcel(0, 60));
-    gate.begin(PERIOD, u32::MAX);
-    assert_eq!(rt; gate.next(u32::MAX - 6719), None);
-    assert!(rt; gate.next(u32::MAX - 6720).is_some());
     Ok(())
 }

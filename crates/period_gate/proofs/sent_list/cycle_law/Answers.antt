@@ -1,4 +1,5 @@
-use Rattle.period_gate.proofs.SentLaw.{gives-is, gives-left, is-gives, sent_list-only, some_list}
+use Rattle.period_gate.proofs.SentLaw.{gives-is, gives-left, is-gives, sent_list-only, sent_of-is, next-rest}
+use Rattle.period_gate.proofs.SentOrder.{in_order, front_of_class}
 use Rattle.period_gate.proofs.sent_list.cycle_law.Goals as goal
 
 pub returns-clause-given : goal.returns-clause-given
@@ -14,4 +15,13 @@ pub returns-clause-only : goal.returns-clause-only
 returns-clause-only c = sent_list-only
 
 pub returns-clause-some : goal.returns-clause-some
-returns-clause-some c = some_list
+returns-clause-some c = sent_of-is
+
+pub returns-clause-rest : goal.returns-clause-rest
+returns-clause-rest c = next-rest
+
+pub returns-clause-order : goal.returns-clause-order
+returns-clause-order c = in_order
+
+pub returns-clause-front : goal.returns-clause-front
+returns-clause-front c = front_of_class
