@@ -1,5 +1,5 @@
 -- The sent list of a cycle in its order: times, and which parcels.
-use Rattle.std.proofs.Common.{◌≡◌, ℕ, ◌+◌, ◌*◌, ◌≤◌, ◌<◌, max, Bool, true, false, if◌then◌else◌, List, drop, [], ◌∷◌, ◌++◌, map, filter, slice_get, Some, refl, sym, ◌∙◌, ap, subst, arith, All, AllPairs}
+use Rattle.std.proofs.Common.{◌≡◌, ℕ, ◌≤◌, Bool, true, false, if◌then◌else◌, List, drop, [], ◌∷◌, ◌++◌, slice_get, Some, refl, sym, ◌∙◌, ap, subst, arith, All, AllPairs}
 use Rattle.std.proofs.lemmas.List.Elements.{All-nil, All-cons, All-weaker}
 use Rattle.std.proofs.lemmas.List.Kept.{AllPairs-cons}
 use Rattle.irt_base.specs.declared.blocks.Period.{Period}
@@ -7,7 +7,7 @@ use Rattle.irt_base.specs.declared.plants.Class.{Class}
 use Rattle.irt_base.specs.declared.plants.Class.TheVariants.{Orange, Green}
 use Rattle.period_gate.specs.declared.parcels.Parcel.{Parcel}
 use Rattle.period_gate.specs.declared.parcels.Sent.{Sent}
-use Rattle.period_gate.specs.Gate.{Waiting, queue_of, begin_of, without_head}
+use Rattle.period_gate.specs.Gate.{Waiting, queue_of, without_head}
 use Rattle.period_gate.specs.SentList.{left_of, IsSentNext, IsSentList, Gives, IsTimed, AreInOrder, is_same_class, sent_parcels}
 use Rattle.period_gate.proofs.SentLaw.{next-is, is-gives}
 

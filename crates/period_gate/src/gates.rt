@@ -32,6 +32,11 @@ impl Model for Gate {
       period = g.period;
       limit = g.limit;
     } };
+
+    ghost use Rattle.std.specs.Prelude.{◌≤◌, length};
+    ghost use Rattle.period_gate.specs.declared.queue.TheConstants.{QUEUE_ROOM};
+
+    ghost invariant = { λ g. (length g.orange ≤ QUEUE_ROOM) × (length g.green ≤ QUEUE_ROOM) };
 }
 
 impl Gate {
@@ -56,7 +61,8 @@ impl Gate {
 
     /// Begins a cycle with the port's Tx period and the local time, in ns, by which parcels end.
     pub fn begin(&mut self, period: Period, limit: u32)
-        ensures { self.new ≡ record self.old { period = period; limit = limit } }
+        ensures begun { self.new ≡ record self.old { period = period; limit = limit } }
+        ensures room { (class : Class) → length (queue_of class self.new) ≤ QUEUE_ROOM }
     {
         self.period = period;
         self.limit = limit;

@@ -54,7 +54,10 @@ fn a_class_holds_32(rt: HostRuntime) -> Result<(), Fail> {
     }
     assert_eq!(rt; gate.offer(Class::Orange, parcel(32, 60)), Offered::Full);
     assert_eq!(rt; gate.offer(Class::Green, parcel(0, 60)), Offered::Queued);
-    assert_eq!(rt; (gate.waiting(Class::Orange), gate.waiting(Class::Green)), (32, 1));
+    assert_eq!(rt;
+        (gate.waiting(Class::Orange), gate.waiting(Class::Green)),
+        (32, 1)
+    );
     gate.begin(PERIOD, 998000);
     assert!(rt; gate.next(0).is_some());
     assert_eq!(rt; gate.offer(Class::Orange, parcel(33, 60)), Offered::Queued);
