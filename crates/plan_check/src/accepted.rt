@@ -7,7 +7,7 @@ ghost use Rattle.plan_rules.specs.Expected.{IsSafe};
 ghost use Rattle.plan_rules.specs.Places.{IsAccepted};
 ghost use Rattle.plan_rules.specs.Plan.{IsPlan};
 
-use crate::copy::{DeepCopy, copy_items};
+use deep_copy::{DeepCopy, copy_items};
 use irt_base::blocks::Bundle;
 use irt_base::list::Items;
 use irt_base::memory::NoMemory;

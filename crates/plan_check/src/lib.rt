@@ -5,7 +5,6 @@
 pub mod accepted;
 pub mod check;
 mod clocks;
-mod copy;
 mod later;
 mod order;
 pub mod rules;

@@ -1,5 +1,5 @@
 use Rattle.std.proofs.Common.{◌≡◌, take}
-use Rattle.plan_check.proofs.copy.copy_items.Given as goal
+use Rattle.deep_copy.proofs.copy_items.Given as goal
 
 abbrev pub invariant-loop-item : goal.invariant-loop-item
 invariant-loop-item g l = l.copies ≡ take l.item-index l.items

@@ -1,4 +1,5 @@
 //! Copies of a plant and of blocks that own their memory.
+#![tactic(auto)]
 
 ghost use Rattle.std.specs.Prelude.{◌≡◌, IfOk};
 
@@ -9,14 +10,14 @@ use irt_base::plants::{Demand, Device, Plant};
 use std::alloc::Global;
 
 /// A value that can be copied with all the memory that it owns.
-pub(crate) trait DeepCopy: Drop {
+pub trait DeepCopy: Drop {
     /// The same value.
     fn deep_copy(&self, alloc: Global) -> Result<Self, NoMemory>
         ensures { IfOk result (λ copy. copy ≡ self.now) };
 }
 
 /// A list of the same values.
-pub(crate) fn copy_items<T: DeepCopy>(alloc: Global, items: &[T]) -> Result<Items<T>, NoMemory>
+pub fn copy_items<T: DeepCopy>(alloc: Global, items: &[T]) -> Result<Items<T>, NoMemory>
     ensures { IfOk result (λ copy. copy ≡ items.now) }
 {
     let mut copies = Items::new(alloc);
