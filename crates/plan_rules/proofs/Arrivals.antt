@@ -21,7 +21,7 @@ use Rattle.plant_rules.specs.Meets.{IsDemand, MeetsRules}
 use Rattle.plan_rules.specs.World.{WorldRow, IsInStep}
 use Rattle.plan_rules.proofs.StartWindow.{IsInWindow}
 use Rattle.plan_rules.specs.World.{IsWithinWindow}
-use Rattle.plan_rules.specs.Way.{entry_at, Leaves, IsAbsolute, IsParent, IsInRange}
+use Rattle.plan_rules.specs.Way.{entry_at, Leaves, IsAbsolute, IsInRange}
 use Rattle.plan_rules.specs.Tree.{demand_of}
 use Rattle.plan_rules.specs.Arrival.{Arrival, IsArrival}
 use Rattle.plan_rules.specs.Expected.{IsTaken, DeliversInTime, TakesArrivals}

@@ -1,5 +1,5 @@
 -- What takes place in a cycle of accepted blocks is exactly what has to.
-use Rattle.std.proofs.Common.{◌≡◌, ℕ, ◌+◌, ◌*◌, ◌≤◌, ◌<◌, ◌^◌, Bool, false, List, [], ◌∷◌, Option, Some, None, IfSome, slice_get, inl, inr, refl, sym, ◌∙◌, ap, subst, subst₂, arith, position, get_or, length}
+use Rattle.std.proofs.Common.{◌≡◌, ℕ, ◌+◌, ◌≤◌, ◌<◌, Bool, false, List, [], ◌∷◌, Option, Some, None, IfSome, slice_get, inl, inr, refl, sym, ◌∙◌, ap, subst, subst₂, arith, position, length}
 use Rattle.std.specs.Prelude.{ℤ, pos, ◌+ℤ◌}
 use Rattle.std.proofs.lemmas.Bool.{cases_eq, eq-eqb, true≢false}
 use Rattle.std.proofs.lemmas.List.Quantifiers.{position-Some}
@@ -12,13 +12,13 @@ use Rattle.irt_base.specs.declared.blocks.Entry.{Entry}
 use Rattle.irt_base.specs.declared.plants.Demand.{Demand}
 use Rattle.irt_base.specs.declared.plants.Link.{Link}
 use Rattle.irt_base.specs.declared.plants.Plant.{Plant}
-use Rattle.plant_rules.specs.Meets.{IsDemand, IsConsumer, MeetsRules}
+use Rattle.plant_rules.specs.Meets.{IsConsumer, MeetsRules}
 use Rattle.plan_rules.specs.World.{WorldRow, IsUncut}
 use Rattle.plan_rules.specs.Way.{Setup, entry_at, IsParent, IsLive, provided, forwarded, IsStart}
 use Rattle.plan_rules.specs.Tree.{demand_of, Consumes, IsReached, here, through}
-use Rattle.plan_rules.specs.Occupation.{Occupation, IsOccupation}
-use Rattle.plan_rules.specs.Arrival.{Delivery, IsDelivery}
-use Rattle.plan_rules.specs.Once.{ExactlyOne, IsDueFrame, IsSender, IsRecipient, StartsOnce, SendsExactly, ReachesExactly, IsUndisturbed, LivesUndisturbed}
+use Rattle.plan_rules.specs.Occupation.{IsOccupation}
+use Rattle.plan_rules.specs.Arrival.{IsDelivery}
+use Rattle.plan_rules.specs.Once.{IsDueFrame, StartsOnce, SendsExactly, ReachesExactly, IsUndisturbed, LivesUndisturbed}
 use Rattle.plan_rules.specs.Plan.{IsPlan, setup_of}
 use Rattle.plan_rules.specs.Places.{IsAccepted, place_of}
 use Rattle.plan_rules.proofs.Kept as kept

@@ -13,5 +13,7 @@ pub mod Starts
 pub mod Times
 pub mod Verdicts
 pub mod Wires
-mod TimingExample
+mod PairExample
+mod PlanExample
+mod AcceptedExample
 mod WorkedExample

@@ -1,25 +1,21 @@
 -- What a network that plays accepted blocks rests on.
-use Rattle.std.proofs.Common.{◌≡◌, ℕ, ◌+◌, ◌*◌, ◌≤◌, ◌⊎◌, inl, inr, false, List, Some, slice_get, option_map, refl, sym, ◌∙◌, ap, subst, subst₂, arith}
+use Rattle.std.proofs.Common.{◌≡◌, ℕ, ◌+◌, ◌*◌, ◌≤◌, inl, inr, false, List, Some, slice_get, option_map, refl, sym, ◌∙◌, ap, subst, subst₂, arith}
 use Rattle.std.specs.Prelude.{ℤ, pos, ◌+ℤ◌, ◌≤ℤ◌}
 use Rattle.std.proofs.lemmas.Int.{ints}
 use Rattle.std.proofs.lemmas.Option.{same_Some}
 use Rattle.irt_base.specs.Cycle.{IsDue, wire_time, cycle_time, guard_time}
-use Rattle.irt_base.specs.Wiring.{peer_of, hop_of}
+use Rattle.irt_base.specs.Wiring.{hop_of}
 use Rattle.irt_base.specs.declared.numbers.DevId.{DevId}
 use Rattle.irt_base.specs.declared.numbers.PortNo.{PortNo}
 use Rattle.irt_base.specs.declared.blocks.Bundle.{Bundle}
 use Rattle.irt_base.specs.declared.blocks.Entry.{Entry}
 use Rattle.irt_base.specs.declared.plants.Device.{Device}
-use Rattle.irt_base.specs.declared.plants.Mode.{Mode}
 use Rattle.irt_base.specs.declared.plants.Mode.TheVariants.{Absolute}
 use Rattle.irt_base.specs.declared.plants.Plant.{Plant}
-use Rattle.plan_rules.specs.World.{WorldRow, IsWithinWindow, IsUncut}
+use Rattle.plan_rules.specs.World.{WorldRow, IsWithinWindow}
 use Rattle.plan_rules.specs.Way.{Setup, entry_at, Leaves, IsAbsolute, IsAnchor, IsParent, IsLive, forwarded, IsStart, by_offset, by_arrival, IsInRange}
-use Rattle.plan_rules.specs.Arrival.{Arrival, IsArrival}
-use Rattle.plan_rules.specs.Expected.{IsTaken}
 use Rattle.plan_rules.specs.Headers.{is_relative}
-use Rattle.plan_rules.specs.Network.{EntriesAreDemanded, EntriesAreAlike, IsSent, ArrivesOnce, MeetsArrivals, SendsOn, IsNear, StaysNear, AllNear}
-use Rattle.plan_rules.specs.Once.{ExactlyOne}
+use Rattle.plan_rules.specs.Network.{EntriesAreDemanded, EntriesAreAlike, IsSent, ArrivesOnce, MeetsArrivals, SendsOn, StaysNear, AllNear}
 use Rattle.plan_rules.specs.Plan.{IsPlan, setup_of}
 use Rattle.plan_rules.specs.Places.{IsAccepted, place_of}
 use Rattle.plan_rules.proofs.Kept as kept

@@ -41,14 +41,15 @@ mode_cases (Some Relative) = inr (λ is. absurd (cc))
 pub absolute_cases : (plant : Plant) (device : ℕ) → IsAbsolute plant device ⊎ ¬ IsAbsolute plant device
 absolute_cases plant device = mode_cases (option_map (λ (d : Device). d.mode) (slice_get plant.devices device))
 
-high_bit : (tx bit : ℕ) → tx < 2 ^ 8 → 8 ≤ bit → ¬ IsBitSet tx bit
-high_bit tx bit byte high is =
-    let none = bit_at_above tx 8 bit byte high in
-    is (and_pow tx bit ∙ (ap (λ (n : ℕ). n * 2 ^ bit) none ∙ omega arith))
+-- a number has no bit at or past one that it is below
+pub no_high_bit : (n most bit : ℕ) → n < 2 ^ most → most ≤ bit → ¬ IsBitSet n bit
+no_high_bit n most bit below high is =
+    let none = bit_at_above n most bit below high in
+    is (and_pow n bit ∙ (ap (λ (k : ℕ). k * 2 ^ bit) none ∙ omega arith))
 
 -- a byte names seven ports
 pub port_below : (e : Entry) (port : ℕ) → e.tx < 2 ^ 8 → Leaves e port → port ≤ MAX_PORTS
-port_below e port byte leaves = elim (cases_lt port 8) [ inl low ↦ omega arith | inr high ↦ absurd (high_bit e.tx port byte high leaves.bit) ]
+port_below e port byte leaves = elim (cases_lt port 8) [ inl low ↦ omega arith | inr high ↦ absurd (no_high_bit e.tx 8 port byte high leaves.bit) ]
 
 ports_up_to : (e : Entry) (n : ℕ) → ((port : ℕ) × Leaves e port) ⊎ ((port : ℕ) → port ≤ n → ¬ Leaves e port)
 ports_up_to e zero = inr (λ port low leaves. omega (arith, low, leaves.from_one))

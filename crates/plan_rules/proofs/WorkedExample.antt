@@ -1,8 +1,10 @@
 -- The definitions computed on one line of three devices: an absolute one sends a frame of 40 bytes at offset 0, a
 -- relative switch forwards it, an absolute one consumes it. Each hop takes 800 ns, the switch 1000 to 3000.
-use Rattle.std.proofs.Common.{◌≡◌, ℕ, ◌<◌, List, [], ◌∷◌, zero, suc, Some, refl, inl, inr, arith, replicate, slice_index_or, Bool, true, false}
+use Rattle.std.proofs.Common.{◌≡◌, ℕ, ◌<◌, List, [], ◌∷◌, zero, suc, Some, refl, inl, inr, arith, replicate, slice_get, slice_index_or, subst, Bool, true, false}
 use Rattle.std.specs.Prelude.{ℤ, pos, ◌≤ℤ◌}
 use Rattle.std.proofs.lemmas.Int.{ints}
+use Rattle.std.proofs.lemmas.Option.{same_Some, none-some}
+use Rattle.irt_base.specs.Valid.{IsWithin}
 use Rattle.irt_base.specs.Wiring.{hop_of}
 use Rattle.irt_base.specs.declared.blocks.Bundle.{Bundle}
 use Rattle.irt_base.specs.declared.blocks.Entry.{Entry}
@@ -16,7 +18,7 @@ use Rattle.irt_base.specs.declared.plants.Mode.{Mode}
 use Rattle.irt_base.specs.declared.plants.Mode.TheVariants as modes
 use Rattle.irt_base.specs.declared.plants.Plant.{Plant}
 use Rattle.plan_rules.specs.World.{WorldRow}
-use Rattle.plan_rules.specs.Way.{Setup, entry_at, IsAnchor, IsParent, IsLive, provided, forwarded, IsStart, by_offset, by_arrival}
+use Rattle.plan_rules.specs.Way.{Setup, entry_at, IsAnchor, IsParent, IsLive, provided, forwarded, IsStart, by_offset, by_arrival, IsInRange}
 use Rattle.plan_rules.specs.SendWindow.{HasWindow, at_anchor, behind}
 use Rattle.plan_rules.specs.Occupation.{Occupation, IsOccupation, IsSameSending}
 use Rattle.plan_rules.specs.Expected.{IsFree, NeverCollides}
@@ -91,6 +93,9 @@ lateness (suc device) = pos 0
 abbrev late : WorldRow
 late = record { error = λ device. lateness device; bridge = λ device frame. 2000; is_cut = λ link. false }
 
+abbrev Takes : Device → Type 0
+Takes d = IsWithin d.bmin d.bmax 2000
+
 hop : hop_of line 0 1 ≡ Some 800
 hop = refl
 
@@ -134,6 +139,16 @@ occupies = record {
   starts = start;
   ends = refl;
 }
+
+-- 2000 ns is in the range of each device's bridge delay
+in_range : IsInRange setup late
+in_range n frame e d at is_device relay = go n d is_device
+  where
+    go : (n : ℕ) (d : Device) → slice_get line.devices n ≡ Some d → Takes d
+    go zero d is = subst Takes (same_Some (device 97 modes.Absolute 1) d is) (omega arith, omega arith)
+    go (suc zero) d is = subst Takes (same_Some (device 98 modes.Relative 2) d is) (omega arith, omega arith)
+    go (suc (suc zero)) d is = subst Takes (same_Some (device 99 modes.Absolute 1) d is) (omega arith, omega arith)
+    go (suc (suc (suc n))) d is = absurd (none-some d is)
 
 -- cycle 1 leaves the switch's second port to parcels from 1250000 until 1998000
 free : IsFree line bundles (late ∷ late ∷ []) 1 2 (pos 1250000) (pos 1998000)
