@@ -21,6 +21,7 @@ use Rattle.plan_rules.specs.Arrival.{Arrival, IsArrival, IsDrop, Delivery, IsDel
 use Rattle.plan_rules.specs.Expected.{IsTaken}
 use Rattle.plan_rules.specs.Network.{IsNear}
 use Rattle.plan_rules.specs.Occupation.{Occupation, IsOccupation}
+use Rattle.plan_rules.specs.Once.{IsDueFrame, IsSender, IsRecipient, IsUndisturbed}
 use Rattle.plan_rules.specs.Plan.{setup_of}
 use Rattle.plan_rules.specs.SendWindow.{HasWindow, at_anchor}
 use Rattle.plan_rules.proofs.Starts.{no_high_bit}
@@ -174,6 +175,16 @@ occupies = record {
   ends = refl;
 }
 
+-- as it has to, in an undisturbed cycle
+due : IsDueFrame setup 1 0x100 demand
+due = record { own = own; demanded = refl; stands = refl; due = refl }
+
+sender : IsSender setup (exact ∷ exact ∷ []) 1 0 1 0x100
+sender = record { row = exact; demand = demand; entry = own; in_cycle = refl; due = due; stands = refl; leaves = leaves; live = live }
+
+undisturbed : IsUndisturbed pair exact
+undisturbed = record { in_step = λ n there. in_step n; uncut = λ link there. refl }
+
 -- it begins to arrive at 1000800
 abbrev arrival : Arrival
 arrival = record { cycle = 1; device = 1; port = 1; frame = 0x100; start = pos 1000800 }
@@ -240,6 +251,16 @@ delivers = record {
   hops = refl;
   starts = start;
   ends = refl;
+}
+
+recipient : IsRecipient setup (exact ∷ exact ∷ []) 1 1 0x100
+recipient = record {
+  row = exact;
+  demand = demand;
+  in_cycle = refl;
+  due = due;
+  consumed = (0, omega arith, refl);
+  live = forwarded 1 leaf 0 1 refl comes live refl (in_step 1);
 }
 
 pub window : HasWindow setup 0x100 0 (record { lo = 0; hi = 0; anchor = 0 })

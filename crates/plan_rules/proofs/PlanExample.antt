@@ -7,8 +7,11 @@ use Rattle.irt_base.specs.declared.blocks.Assignment.{Assignment}
 use Rattle.irt_base.specs.declared.blocks.Bundle.{Bundle}
 use Rattle.irt_base.specs.declared.blocks.Entry.{Entry}
 use Rattle.plant_rules.specs.Meets.{IsDevice, MeetsRules, HasWords}
+use Rattle.plan_rules.specs.Places.{IsLess, IsReject, place_of}
 use Rattle.plan_rules.specs.Plan.{IsPlan}
-use Rattle.plan_rules.proofs.PairExample.{device, pair, entry, own, leaf, sending, receiving, identifier, bundle, bundles}
+use Rattle.plan_rules.specs.Rules.{KeepsRule}
+use Rattle.plan_rules.specs.declared.place.Place.{Place}
+use Rattle.plan_rules.proofs.PairExample.{device, pair, entry, own, leaf, sending, receiving, identifier, bundle, first, second, bundles}
 
 -- ---- the plant
 
@@ -134,3 +137,20 @@ valid (suc (suc k)) d there = absurd (omega (arith, there))
 
 pub is_plan : IsPlan pair bundles
 is_plan = record { rules = meets; blocks = valid; count = refl }
+
+-- With a window of 999 in the first bundle V1 fails there, and so before all others.
+abbrev narrow : Bundle
+narrow = record first { sync = record first.sync { window = 999 } }
+
+rejected : IsReject pair (narrow ∷ second ∷ []) (record { rule = 1; place = place_of 0 0 0 })
+rejected = record {
+  fails = record { breaks = λ repeats. absurd (omega (arith, (repeats (device 97) narrow narrow refl refl refl).window)); least = λ before less. absurd (none_before before less) };
+  first = none_below;
+}
+  where
+    none_before : (before : Place) → ¬ IsLess before (place_of 0 0 0)
+    none_before before less = grind arith
+
+    none_below : (number : ℕ) (at : Place) → number < 1 → KeepsRule pair (narrow ∷ second ∷ []) number at
+    none_below zero at below = tt
+    none_below (suc number) at below = absurd (omega (arith, below))

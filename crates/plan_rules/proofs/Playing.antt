@@ -15,14 +15,14 @@ use Rattle.irt_base.specs.declared.plants.Plant.{Plant}
 use Rattle.plan_rules.specs.World.{WorldRow, IsWithinWindow}
 use Rattle.plan_rules.specs.Way.{Setup, entry_at, Leaves, IsAbsolute, IsAnchor, IsParent, IsLive, forwarded, IsStart, by_offset, by_arrival, IsInRange}
 use Rattle.plan_rules.specs.Headers.{is_relative}
-use Rattle.plan_rules.specs.Network.{EntriesAreDemanded, EntriesAreAlike, IsSent, ArrivesOnce, MeetsArrivals, SendsOn, StaysNear, AllNear}
+use Rattle.plan_rules.specs.Network.{EntriesAreDemanded, EntriesAreAlike, IsSent, ArrivesOnce, MeetsArrivals, SendsOn, IsNear, StaysNear, AllNear}
 use Rattle.plan_rules.specs.Plan.{IsPlan, setup_of}
 use Rattle.plan_rules.specs.Places.{IsAccepted, place_of}
 use Rattle.plan_rules.proofs.Kept as kept
-use Rattle.plan_rules.proofs.AlongWay.{timed}
+use Rattle.plan_rules.proofs.AlongWay.{timed, live_parent}
 use Rattle.plan_rules.proofs.Arrivals.{alike, met_by, takes_arrival}
 use Rattle.plan_rules.proofs.Exactly.{bytes}
-use Rattle.plan_rules.proofs.Held.{held_of, blocks_of}
+use Rattle.plan_rules.proofs.Held.{held_of, blocks_of, all_at}
 use Rattle.plan_rules.proofs.Sendings.{devices_of}
 use Rattle.plan_rules.proofs.StartWindow.{IsInWindow}
 use Rattle.plan_rules.proofs.Starts.{hop_there, absolute_cases, port_below, one_start}
@@ -200,4 +200,16 @@ module _ (plant : Plant) (bundles : List Bundle) (plan : IsPlan plant bundles) (
         near_after row range k device port frame hop 0 is.entry start start is.stands is.leaves is.live is.starts hops (omega arith) (no_shift start);
     arrives = λ row range from a is.
         near_after row range a.cycle is.sender is.port a.frame is.hop is.hop from is.sent a.start is.stands is.leaves is.live is.starts is.hops (omega arith) is.comes;
+    delivered = λ world ranges d is.
+        let range = all_at (IsInRange setup) world d.cycle is.row ranges is.in_cycle in
+        let (from, at, sends) = is.comes.sent in
+        let begins = is.sent +ℤ pos is.hop in
+        let near = near_after is.row range d.cycle is.parent is.port d.frame is.hop is.hop from is.sent begins at sends
+        (live_parent setup plan.rules is.row d.frame d.device is.parent is.port is.e is.stands is.comes is.live) is.starts is.hops (omega arith) refl in
+        let same : is.e.data_length ≡ from.data_length = (entries_are_alike d.frame is.parent d.device from is.e at is.stands).length in
+        subst (IsNear plant d.cycle) (whole is.sent d.end is.hop is.e.data_length from.data_length is.ends same) near.end;
   }
+    where
+      whole : (sent end : ℤ) (hop bytes length : ℕ) → end ≡ (sent +ℤ pos (hop + wire_time bytes)) → bytes ≡ length →
+          (sent +ℤ pos hop +ℤ pos (wire_time length)) ≡ end
+      whole sent end hop bytes length ends same = omega (arith, ints)

@@ -1,17 +1,20 @@
 -- What a network that plays accepted blocks rests on, cycle by cycle.
-use Rattle.std.specs.Prelude.{◌≡◌, ◌↔◌, ℕ, ◌+◌, ◌*◌, ◌≤◌, Some, ℤ, pos, ◌+ℤ◌, ◌≤ℤ◌, IsBitSet}
+use Rattle.std.specs.Prelude.{◌≡◌, ◌↔◌, ℕ, ◌+◌, ◌*◌, ◌≤◌, List, Some, All, ℤ, pos, ◌+ℤ◌, ◌≤ℤ◌, IsBitSet}
 use Rattle.irt_base.specs.Cycle.{IsDue, wire_time, cycle_time}
 use Rattle.irt_base.specs.Valid.{IsEntry}
 use Rattle.irt_base.specs.Wiring.{peer_of}
 use Rattle.irt_base.specs.declared.limits.TheConstants.{MAX_PORTS}
+use Rattle.irt_base.specs.declared.blocks.Bundle.{Bundle}
 use Rattle.irt_base.specs.declared.blocks.Entry.{Entry}
 use Rattle.irt_base.specs.declared.plants.Demand.{Demand}
 use Rattle.irt_base.specs.declared.plants.Plant.{Plant}
 use Rattle.plan_rules.specs.World.{WorldRow, IsInStep, IsUncut}
 use Rattle.plan_rules.specs.Way.{Setup, entry_at, Leaves, IsAbsolute, IsParent, IsLive, IsStart, IsInRange}
 use Rattle.plan_rules.specs.Tree.{demand_of, Consumes}
-use Rattle.plan_rules.specs.Arrival.{Arrival, IsArrival}
+use Rattle.plan_rules.specs.Arrival.{Arrival, IsArrival, Delivery, IsDelivery}
 use Rattle.plan_rules.specs.Once.{ExactlyOne}
+use Rattle.plan_rules.specs.Places.{IsAccepted}
+use Rattle.plan_rules.specs.Plan.{IsPlan, setup_of}
 
 -- ---- entries
 
@@ -94,9 +97,14 @@ pub record StaysNear (plant : Plant) (k bytes : ℕ) (start : ℤ) : Type 0 wher
   pub begin : IsNear plant k start
   pub end : IsNear plant k (start +ℤ pos (wire_time bytes))
 
--- What is sent and what arrives stays near its cycle.
+-- What is sent, arrives and is delivered stays near its cycle.
 pub record AllNear (setup : Setup) : Type 0 where
   pub sent : (row : WorldRow) → IsInRange setup row → (k device port frame : ℕ) (start : ℤ) → (is : IsSent setup row k device port frame start) →
       StaysNear setup.plant k is.entry.data_length start
   pub arrives : (row : WorldRow) → IsInRange setup row → (from : Entry) (a : Arrival) → IsArrival setup row from a →
       StaysNear setup.plant a.cycle from.data_length a.start
+  pub delivered : (world : List WorldRow) → All (IsInRange setup) world → (d : Delivery) → IsDelivery setup world d → IsNear setup.plant d.cycle d.end
+
+-- A fact of all accepted plans.
+abbrev pub ForAccepted : (Setup → Type 0) → Type 0
+ForAccepted Fact = (plant : Plant) (bundles : List Bundle) → IsPlan plant bundles → IsAccepted plant bundles → Fact (setup_of plant bundles)

@@ -3,9 +3,9 @@
 ghost use Rattle.std.specs.Prelude.{◌≡◌, ℕ, ◌+◌, List, length};
 ghost use Rattle.irt_base.specs.declared.blocks.Bundle.{Bundle};
 ghost use Rattle.irt_base.specs.declared.plants.Plant.{Plant};
-ghost use Rattle.plan_rules.specs.Network.{EntriesAreDemanded, EntriesAreAlike, ArrivesOnce, MeetsArrivals, SendsOn, AllNear};
+ghost use Rattle.plan_rules.specs.Network.{EntriesAreDemanded, EntriesAreAlike, ArrivesOnce, MeetsArrivals, SendsOn, AllNear, ForAccepted};
 ghost use Rattle.plan_rules.specs.Once.{StartsOnce};
-ghost use Rattle.plan_rules.specs.Plan.{IsPlan, setup_of};
+ghost use Rattle.plan_rules.specs.Plan.{IsPlan};
 ghost use Rattle.plan_rules.specs.Places.{KeepsBelow, IsAccepted, IsReject};
 ghost use Rattle.plan_rules.specs.Rules.{rule_table, KeepsRule};
 ghost use Rattle.plan_rules.specs.Expected.{IsSafe};
@@ -19,35 +19,31 @@ ghost use Rattle.plan_rules.specs.declared.place.Reject.{Reject};
 /// once by each port that has to, reaches once each consumer with a live route, and goes nowhere else. In a cycle
 /// without disturbance every route is live.
 pub fn accepted_plans_are_safe()
-    ensures { (plant : Plant) (bundles : List Bundle) → IsPlan plant bundles → IsAccepted plant bundles → IsSafe plant bundles }
+    ensures { (plant : Plant) (bundles : List Bundle) → IsPlan plant bundles → IsAccepted plant bundles →
+        IsSafe plant bundles }
 {}
 
 /// What a network that plays accepted blocks rests on, in each cycle: what its entries are, what a start leads to and
 /// an arrival, that neither comes before its cause, and near which cycle all of it is.
 pub fn accepted_plans_can_be_played()
-    ensures entries { (plant : Plant) (bundles : List Bundle) → IsPlan plant bundles → IsAccepted plant bundles →
-        EntriesAreDemanded (setup_of plant bundles) }
-    ensures alike { (plant : Plant) (bundles : List Bundle) → IsPlan plant bundles → IsAccepted plant bundles →
-        EntriesAreAlike (setup_of plant bundles) }
-    ensures starts { (plant : Plant) (bundles : List Bundle) → IsPlan plant bundles → IsAccepted plant bundles →
-        (row : WorldRow) (k : ℕ) → StartsOnce (setup_of plant bundles) row k }
-    ensures arrives { (plant : Plant) (bundles : List Bundle) → IsPlan plant bundles → IsAccepted plant bundles →
-        ArrivesOnce (setup_of plant bundles) }
-    ensures met { (plant : Plant) (bundles : List Bundle) → IsPlan plant bundles → IsAccepted plant bundles →
-        MeetsArrivals (setup_of plant bundles) }
-    ensures sent_on { (plant : Plant) (bundles : List Bundle) → IsPlan plant bundles → IsAccepted plant bundles →
-        SendsOn (setup_of plant bundles) }
-    ensures near { (plant : Plant) (bundles : List Bundle) → IsPlan plant bundles → IsAccepted plant bundles →
-        AllNear (setup_of plant bundles) }
+    ensures entries { ForAccepted EntriesAreDemanded }
+    ensures alike { ForAccepted EntriesAreAlike }
+    ensures starts { ForAccepted (λ setup. (row : WorldRow) (k : ℕ) → StartsOnce setup row k) }
+    ensures arrives { ForAccepted ArrivesOnce }
+    ensures met { ForAccepted MeetsArrivals }
+    ensures sent_on { ForAccepted SendsOn }
+    ensures near { ForAccepted AllNear }
 {}
 
 /// A plan has one verdict: one first failure at most, and none where it is accepted. Rules that are found to hold
 /// one after the other are in the end all.
 pub fn verdicts_are_one()
-    ensures reject { (plant : Plant) (bundles : List Bundle) (r s : Reject) → IsReject plant bundles r → IsReject plant bundles s → r ≡ s }
-    ensures either { (plant : Plant) (bundles : List Bundle) (r : Reject) → IsReject plant bundles r → ¬ IsAccepted plant bundles }
+    ensures reject { (plant : Plant) (bundles : List Bundle) (r s : Reject) → IsReject plant bundles r →
+        IsReject plant bundles s → r ≡ s }
+    ensures either { (plant : Plant) (bundles : List Bundle) (r : Reject) → IsReject plant bundles r →
+        ¬ IsAccepted plant bundles }
     ensures next { (plant : Plant) (bundles : List Bundle) (number : ℕ) → KeepsBelow plant bundles number →
         ((at : Place) → KeepsRule plant bundles number at) → KeepsBelow plant bundles (number + 1) }
-    ensures all { (plant : Plant) (bundles : List Bundle) → KeepsBelow plant bundles (length (rule_table plant bundles) + 1) →
-        IsAccepted plant bundles }
+    ensures all { (plant : Plant) (bundles : List Bundle) →
+        KeepsBelow plant bundles (length (rule_table plant bundles) + 1) → IsAccepted plant bundles }
 {}

@@ -13,7 +13,8 @@ ghost use Rattle.plan_rules.specs.World.{WorldRow};
 /// one window, and in a cycle one start.
 pub fn ways_are_one()
     ensures mutual { (plant : Plant) → MeetsRules plant → (d p v q : ℕ) →
-        peer_of plant d p ≡ Some (record { 0 = v }, record { 0 = q }) → peer_of plant v q ≡ Some (record { 0 = d }, record { 0 = p }) }
+        peer_of plant d p ≡ Some (record { 0 = v }, record { 0 = q }) →
+        peer_of plant v q ≡ Some (record { 0 = d }, record { 0 = p }) }
     ensures parents { (setup : Setup) → MeetsRules setup.plant → (frame device : ℕ) (e : Entry) (u p v q : ℕ) →
         IsParent setup frame device e u p → IsParent setup frame device e v q → (u ≡ v) × (p ≡ q) }
     ensures windows { (setup : Setup) → MeetsRules setup.plant → (frame device : ℕ) (v w : SendWindow) →
