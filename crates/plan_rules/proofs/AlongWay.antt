@@ -1,5 +1,5 @@
 -- Along the way of a frame: each start lies in its window.
-use Rattle.std.proofs.Common.{◌≡◌, ℕ, ◌+◌, ◌*◌, Some, sym, ◌∙◌, ap, subst, arith, slice_get}
+use Rattle.std.proofs.Common.{◌≡◌, ℕ, ◌+◌, ◌*◌, Some, sym, ◌∙◌, ap, subst, subst₂, arith, slice_get}
 use Rattle.std.specs.Prelude.{ℤ, pos, ◌+ℤ◌}
 use Rattle.std.proofs.lemmas.Int.{ints}
 use Rattle.std.proofs.lemmas.Option.{same_Some}
@@ -8,7 +8,7 @@ use Rattle.irt_base.specs.Valid.{IsWithin}
 use Rattle.irt_base.specs.declared.blocks.Entry.{Entry}
 use Rattle.irt_base.specs.declared.plants.Device.{Device}
 use Rattle.plant_rules.specs.Meets.{MeetsRules}
-use Rattle.plan_rules.specs.World.{WorldRow, IsInStep}
+use Rattle.plan_rules.specs.World.{WorldRow, IsInStep, IsUncut}
 use Rattle.plan_rules.proofs.StartWindow.{IsInWindow}
 use Rattle.plan_rules.specs.Way.{Setup, entry_at, Leaves, IsParent, IsLive, provided, forwarded, IsStart, by_offset, by_arrival, IsRelay, IsInRange}
 use Rattle.plan_rules.specs.SendWindow.{SendWindow, HasWindow, at_anchor, behind}
@@ -28,6 +28,17 @@ live_parent setup rules row frame _ parent port e at comes (provided device f is
 live_parent setup rules row frame _ parent port e at comes (forwarded device f other gate is from live uncut step) =
     let again : IsParent setup frame device e other gate = subst (λ x. IsParent setup frame device x other gate) (same_Some f e (sym is ∙ at)) from in
     subst (IsLive setup row frame) (one_parent setup rules frame device e other gate parent port again comes).0 live
+
+-- and the link from the parent is not cut
+pub uncut_from : (setup : Setup) → MeetsRules setup.plant → (row : WorldRow) (frame device parent port : ℕ) (e : Entry) → entry_at setup device frame ≡ Some e →
+    IsParent setup frame device e parent port → IsLive setup row frame device → IsUncut setup.plant row parent port
+uncut_from setup rules row frame _ parent port e at comes (provided device f is own step) =
+    let none : e.rx_port ≡ 0 = ap (λ (x : Entry). x.rx_port) (same_Some e f (sym at ∙ is)) ∙ own in
+    absurd (omega (arith, none, comes.received))
+uncut_from setup rules row frame _ parent port e at comes (forwarded device f other gate is from live uncut step) =
+    let again : IsParent setup frame device e other gate = subst (λ x. IsParent setup frame device x other gate) (same_Some f e (sym is ∙ at)) from in
+    let (parents, ports) = one_parent setup rules frame device e other gate parent port again comes in
+    subst₂ (λ n p. IsUncut setup.plant row n p) parents ports uncut
 
 -- a device sends a frame on by some port
 pub record Sends (setup : Setup) (device frame : ℕ) : Type 0 where

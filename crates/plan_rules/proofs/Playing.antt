@@ -14,12 +14,13 @@ use Rattle.irt_base.specs.declared.plants.Mode.TheVariants.{Absolute}
 use Rattle.irt_base.specs.declared.plants.Plant.{Plant}
 use Rattle.plan_rules.specs.World.{WorldRow, IsWithinWindow}
 use Rattle.plan_rules.specs.Way.{Setup, entry_at, Leaves, IsAbsolute, IsAnchor, IsParent, IsLive, forwarded, IsStart, by_offset, by_arrival, IsInRange}
+use Rattle.plan_rules.specs.Arrival.{Arrival, IsArrival}
 use Rattle.plan_rules.specs.Headers.{is_relative}
-use Rattle.plan_rules.specs.Network.{EntriesAreDemanded, EntriesAreAlike, IsSent, ArrivesOnce, MeetsArrivals, SendsOn, IsNear, StaysNear, AllNear}
+use Rattle.plan_rules.specs.Network.{EntriesAreDemanded, AreAlike, EntriesAreAlike, IsSent, ArrivesOnce, MeetsArrivals, SendsOn, DeliversArrivals, IsNear, StaysNear, AllNear}
 use Rattle.plan_rules.specs.Plan.{IsPlan, setup_of}
 use Rattle.plan_rules.specs.Places.{IsAccepted, place_of}
 use Rattle.plan_rules.proofs.Kept as kept
-use Rattle.plan_rules.proofs.AlongWay.{timed, live_parent}
+use Rattle.plan_rules.proofs.AlongWay.{timed, live_parent, uncut_from, in_step_of}
 use Rattle.plan_rules.proofs.Arrivals.{alike, met_by, takes_arrival}
 use Rattle.plan_rules.proofs.Exactly.{bytes}
 use Rattle.plan_rules.proofs.Held.{held_of, blocks_of, all_at}
@@ -48,6 +49,11 @@ stays plant k bytes start (low, high) = record {
 
     after : (window wire origin : ℕ) (start : ℤ) → pos origin ≤ℤ (start +ℤ pos window) → pos origin ≤ℤ (start +ℤ pos wire +ℤ pos window)
     after window wire origin start low = omega (arith, ints)
+
+-- an end a hop and a wire time after the start
+whole : (sent came : ℤ) (hop bytes length : ℕ) → came ≡ (sent +ℤ pos hop) → bytes ≡ length →
+    (came +ℤ pos (wire_time length)) ≡ (sent +ℤ pos (hop + wire_time bytes))
+whole sent came hop bytes length comes same = omega (arith, ints)
 
 no_shift : (start : ℤ) → start ≡ (start +ℤ pos 0)
 no_shift start = omega (arith, ints)
@@ -177,6 +183,64 @@ module _ (plant : Plant) (bundles : List Bundle) (plan : IsPlan plant bundles) (
       no_anchor device e far relative (inl own) = omega (arith, own, far)
       no_anchor device e far relative (inr both) = relative both.0
 
+  -- ---- what arrives is delivered
+
+  pub delivers_arrivals : (world : List WorldRow) → DeliversArrivals setup world
+  delivers_arrivals world = record {
+    each = λ row from a e in_cycle is step at keeps.
+        let met = meets_arrivals row from a is in
+        let same : met.e ≡ e = same_Some met.e e (sym met.stands ∙ at) in
+        let comes : IsParent setup a.frame a.device e is.sender is.port = subst (λ x. IsParent setup a.frame a.device x is.sender is.port) same met.comes in
+        let alike : AreAlike from e = subst (λ x. AreAlike from x) same met.alike in
+        let entry = entries_are_demanded a.device a.frame e at in
+        record {
+          row = row;
+          demand = entry.demand;
+          e = e;
+          parent = is.sender;
+          port = is.port;
+          hop = is.hop;
+          sent = is.sent;
+          in_cycle = in_cycle;
+          demanded = entry.demanded;
+          consumed = entry.kept.0 keeps;
+          stands = at;
+          due = subst₂ (IsDue a.cycle) (sym alike.ratio) (sym alike.phase) is.due;
+          live = forwarded a.device e is.sender is.port at comes is.live is.uncut step;
+          comes = comes;
+          hops = is.hops;
+          starts = is.starts;
+          ends = whole is.sent a.start is.hop e.data_length from.data_length is.comes alike.length;
+        };
+    only = λ d is.
+        let (from, at, leaves) = is.comes.sent in
+        let alike = entries_are_alike d.frame is.parent d.device from is.e at is.stands in
+        record {
+          row = is.row;
+          from = from;
+          port = is.e.rx_port;
+          start = is.sent +ℤ pos is.hop;
+          in_cycle = is.in_cycle;
+          arrives = record {
+            sender = is.parent;
+            port = is.port;
+            hop = is.hop;
+            sent = is.sent;
+            stands = at;
+            due = subst₂ (IsDue d.cycle) alike.ratio alike.phase is.due;
+            leaves = leaves;
+            live = live_parent setup plan.rules is.row d.frame d.device is.parent is.port is.e is.stands is.comes is.live;
+            uncut = uncut_from setup plan.rules is.row d.frame d.device is.parent is.port is.e is.stands is.comes is.live;
+            leads = is.comes.leads;
+            hops = is.hops;
+            starts = is.starts;
+            comes = refl;
+          };
+          in_step = in_step_of setup is.row d.frame d.device is.live;
+          ends = is.ends ∙ sym (whole is.sent (is.sent +ℤ pos is.hop) is.hop is.e.data_length from.data_length refl alike.length);
+        };
+  }
+
   -- ---- near the cycle
 
   -- a start in its window, with its hop
@@ -191,6 +255,10 @@ module _ (plant : Plant) (bundles : List Bundle) (plan : IsPlan plant bundles) (
       (shifted (cycle_time plant.factor) plant.window k t.window.lo t.window.hi shift (wire_time e.data_length) (row.error t.window.anchor) sent start
       t.inside t.in_step comes (omega (arith, ends, within)))
 
+  arrives_near : (row : WorldRow) → IsInRange setup row → (from : Entry) (a : Arrival) → IsArrival setup row from a → StaysNear plant a.cycle from.data_length a.start
+  arrives_near row range from a is =
+      near_after row range a.cycle is.sender is.port a.frame is.hop is.hop from is.sent a.start is.stands is.leaves is.live is.starts is.hops (omega arith) is.comes
+
   pub all_near : AllNear setup
   all_near = record {
     sent = λ row range k device port frame start is.
@@ -198,18 +266,10 @@ module _ (plant : Plant) (bundles : List Bundle) (plan : IsPlan plant bundles) (
         let r = tree.sent port is.leaves in
         let (hop, hops) = hop_there plant device port r.receiver r.e.rx_port r.leads in
         near_after row range k device port frame hop 0 is.entry start start is.stands is.leaves is.live is.starts hops (omega arith) (no_shift start);
-    arrives = λ row range from a is.
-        near_after row range a.cycle is.sender is.port a.frame is.hop is.hop from is.sent a.start is.stands is.leaves is.live is.starts is.hops (omega arith) is.comes;
+    arrives = arrives_near;
     delivered = λ world ranges d is.
-        let range = all_at (IsInRange setup) world d.cycle is.row ranges is.in_cycle in
-        let (from, at, sends) = is.comes.sent in
-        let begins = is.sent +ℤ pos is.hop in
-        let near = near_after is.row range d.cycle is.parent is.port d.frame is.hop is.hop from is.sent begins at sends
-        (live_parent setup plan.rules is.row d.frame d.device is.parent is.port is.e is.stands is.comes is.live) is.starts is.hops (omega arith) refl in
-        let same : is.e.data_length ≡ from.data_length = (entries_are_alike d.frame is.parent d.device from is.e at is.stands).length in
-        subst (IsNear plant d.cycle) (whole is.sent d.end is.hop is.e.data_length from.data_length is.ends same) near.end;
+        let w = (delivers_arrivals world).only d is in
+        let range = all_at (IsInRange setup) world d.cycle w.row ranges w.in_cycle in
+        subst (IsNear plant d.cycle) (sym w.ends) (arrives_near w.row range w.from
+        (record { cycle = d.cycle; device = d.device; port = w.port; frame = d.frame; start = w.start }) w.arrives).end;
   }
-    where
-      whole : (sent end : ℤ) (hop bytes length : ℕ) → end ≡ (sent +ℤ pos (hop + wire_time bytes)) → bytes ≡ length →
-          (sent +ℤ pos hop +ℤ pos (wire_time length)) ≡ end
-      whole sent end hop bytes length ends same = omega (arith, ints)

@@ -1,5 +1,5 @@
 -- What a network that plays accepted blocks rests on, cycle by cycle.
-use Rattle.std.specs.Prelude.{◌≡◌, ◌↔◌, ℕ, ◌+◌, ◌*◌, ◌≤◌, List, Some, All, ℤ, pos, ◌+ℤ◌, ◌≤ℤ◌, IsBitSet}
+use Rattle.std.specs.Prelude.{◌≡◌, ◌↔◌, ℕ, ◌+◌, ◌*◌, ◌≤◌, List, Some, All, slice_get, ℤ, pos, ◌+ℤ◌, ◌≤ℤ◌, IsBitSet}
 use Rattle.irt_base.specs.Cycle.{IsDue, wire_time, cycle_time}
 use Rattle.irt_base.specs.Valid.{IsEntry}
 use Rattle.irt_base.specs.Wiring.{peer_of}
@@ -83,6 +83,24 @@ pub record IsSentOn (setup : Setup) (row : WorldRow) (a : Arrival) (e : Entry) (
 abbrev pub SendsOn : Setup → Type 0
 SendsOn setup = (row : WorldRow) → IsInRange setup row → (from : Entry) (a : Arrival) (e : Entry) (port : ℕ) → IsArrival setup row from a →
     IsInStep setup.plant row a.device → entry_at setup a.device a.frame ≡ Some e → Leaves e port → IsSentOn setup row a e port
+
+-- A delivery is an arrival that a device in step has whole: a wire time after it begins.
+pub record IsWhole (setup : Setup) (world : List WorldRow) (d : Delivery) : Type 0 where
+  pub row : WorldRow
+  pub from : Entry
+  pub port : ℕ
+  pub start : ℤ
+  pub in_cycle : slice_get world d.cycle ≡ Some row
+  pub arrives : IsArrival setup row from (record { cycle = d.cycle; device = d.device; port = port; frame = d.frame; start = start })
+  pub in_step : IsInStep setup.plant row d.device
+  pub ends : d.end ≡ (start +ℤ pos (wire_time from.data_length))
+
+-- What arrives at devices in step is delivered where their entries keep it, and nothing else is.
+pub record DeliversArrivals (setup : Setup) (world : List WorldRow) : Type 0 where
+  pub each : (row : WorldRow) (from : Entry) (a : Arrival) (e : Entry) → slice_get world a.cycle ≡ Some row → IsArrival setup row from a →
+      IsInStep setup.plant row a.device → entry_at setup a.device a.frame ≡ Some e → IsBitSet e.tx 0 →
+      IsDelivery setup world (record { cycle = a.cycle; device = a.device; frame = a.frame; end = a.start +ℤ pos (wire_time from.data_length) })
+  pub only : (d : Delivery) → IsDelivery setup world d → IsWhole setup world d
 
 -- ---- times
 

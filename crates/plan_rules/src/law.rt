@@ -3,7 +3,7 @@
 ghost use Rattle.std.specs.Prelude.{◌≡◌, ℕ, ◌+◌, List, length};
 ghost use Rattle.irt_base.specs.declared.blocks.Bundle.{Bundle};
 ghost use Rattle.irt_base.specs.declared.plants.Plant.{Plant};
-ghost use Rattle.plan_rules.specs.Network.{EntriesAreDemanded, EntriesAreAlike, ArrivesOnce, MeetsArrivals, SendsOn, AllNear, ForAccepted};
+ghost use Rattle.plan_rules.specs.Network.{EntriesAreDemanded, EntriesAreAlike, ArrivesOnce, MeetsArrivals, SendsOn, DeliversArrivals, AllNear, ForAccepted};
 ghost use Rattle.plan_rules.specs.Once.{StartsOnce};
 ghost use Rattle.plan_rules.specs.Plan.{IsPlan};
 ghost use Rattle.plan_rules.specs.Places.{KeepsBelow, IsAccepted, IsReject};
@@ -32,6 +32,7 @@ pub fn accepted_plans_can_be_played()
     ensures arrives { ForAccepted ArrivesOnce }
     ensures met { ForAccepted MeetsArrivals }
     ensures sent_on { ForAccepted SendsOn }
+    ensures delivered { ForAccepted (λ setup. (world : List WorldRow) → DeliversArrivals setup world) }
     ensures near { ForAccepted AllNear }
 {}
 

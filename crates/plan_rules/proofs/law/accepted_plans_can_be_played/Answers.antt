@@ -1,5 +1,5 @@
 use Rattle.plan_rules.proofs.Exactly.{starts_once}
-use Rattle.plan_rules.proofs.Playing.{entries_are_demanded, entries_are_alike, arrives_once, meets_arrivals, sends_on, all_near}
+use Rattle.plan_rules.proofs.Playing.{entries_are_demanded, entries_are_alike, arrives_once, meets_arrivals, sends_on, delivers_arrivals, all_near}
 use Rattle.plan_rules.proofs.law.accepted_plans_can_be_played.Goals as goal
 
 pub returns-clause-entries : goal.returns-clause-entries
@@ -19,6 +19,9 @@ returns-clause-met c = meets_arrivals
 
 pub returns-clause-sent_on : goal.returns-clause-sent_on
 returns-clause-sent_on c = sends_on
+
+pub returns-clause-delivered : goal.returns-clause-delivered
+returns-clause-delivered c = delivers_arrivals
 
 pub returns-clause-near : goal.returns-clause-near
 returns-clause-near c = all_near
