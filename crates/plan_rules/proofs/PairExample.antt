@@ -19,9 +19,9 @@ use Rattle.plan_rules.specs.World.{WorldRow, IsInStep}
 use Rattle.plan_rules.specs.Way.{Setup, entry_at, Leaves, IsParent, IsLive, provided, forwarded, IsStart, by_offset}
 use Rattle.plan_rules.specs.Arrival.{Arrival, IsArrival, IsDrop, Delivery, IsDelivery, IsInTime}
 use Rattle.plan_rules.specs.Expected.{IsTaken}
-use Rattle.plan_rules.specs.Network.{IsNear}
+use Rattle.plan_rules.specs.Network.{IsNearCycle}
 use Rattle.plan_rules.specs.Occupation.{Occupation, IsOccupation}
-use Rattle.plan_rules.specs.Once.{IsDueFrame, IsSender, IsRecipient, IsUndisturbed}
+use Rattle.plan_rules.specs.Once.{IsDueFrame, HasToSend, HasToReach, IsUndisturbed}
 use Rattle.plan_rules.specs.Plan.{setup_of}
 use Rattle.plan_rules.specs.SendWindow.{HasWindow, at_anchor}
 use Rattle.plan_rules.proofs.Starts.{no_high_bit}
@@ -179,7 +179,7 @@ occupies = record {
 due : IsDueFrame setup 1 0x100 demand
 due = record { own = own; demanded = refl; stands = refl; due = refl }
 
-sender : IsSender setup (exact ∷ exact ∷ []) 1 0 1 0x100
+sender : HasToSend setup (exact ∷ exact ∷ []) 1 0 1 0x100
 sender = record { row = exact; demand = demand; entry = own; in_cycle = refl; due = due; stands = refl; leaves = leaves; live = live }
 
 undisturbed : IsUndisturbed pair exact
@@ -253,7 +253,7 @@ delivers = record {
   ends = refl;
 }
 
-recipient : IsRecipient setup (exact ∷ exact ∷ []) 1 1 0x100
+recipient : HasToReach setup (exact ∷ exact ∷ []) 1 1 0x100
 recipient = record {
   row = exact;
   demand = demand;
@@ -284,7 +284,7 @@ arrives_in_time = (
   omega (arith, ints),
 )
 
-near : IsNear pair 1 (pos 1007520)
+near : IsNearCycle pair 1 (pos 1007520)
 near = record { low = omega (arith, ints); high = omega (arith, ints) }
 
 -- a receiver whose clock is 1001 ns early is out of step, and drops it

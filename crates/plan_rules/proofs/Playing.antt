@@ -16,7 +16,7 @@ use Rattle.plan_rules.specs.World.{WorldRow, IsWithinWindow}
 use Rattle.plan_rules.specs.Way.{Setup, entry_at, Leaves, IsAbsolute, IsAnchor, IsParent, IsLive, forwarded, IsStart, by_offset, by_arrival, IsInRange}
 use Rattle.plan_rules.specs.Arrival.{Arrival, IsArrival}
 use Rattle.plan_rules.specs.Headers.{is_relative}
-use Rattle.plan_rules.specs.Network.{EntriesAreDemanded, AreAlike, EntriesAreAlike, IsSent, ArrivesOnce, MeetsArrivals, SendsOn, DeliversArrivals, IsNear, StaysNear, AllNear}
+use Rattle.plan_rules.specs.Network.{EntriesAreDemanded, AreAlike, EntriesAreAlike, IsSentAt, ArrivesOnce, MeetsArrivals, SendsOn, DeliversArrivals, IsNearCycle, StaysNear, AllNear}
 use Rattle.plan_rules.specs.Plan.{IsPlan, setup_of}
 use Rattle.plan_rules.specs.Places.{IsAccepted, place_of}
 use Rattle.plan_rules.proofs.Kept as kept
@@ -145,7 +145,7 @@ module _ (plant : Plant) (bundles : List Bundle) (plan : IsPlan plant bundles) (
       let due : IsDue a.cycle e.ratio e.phase =
       subst (λ (x : Entry). IsDue a.cycle x.ratio x.phase) same (subst₂ (IsDue a.cycle) (sym met.alike.ratio) (sym met.alike.phase) is.due) in
       let live : IsLive setup row a.frame a.device = forwarded a.device e is.sender is.port at comes is.live is.uncut step in
-      let sent : (start : ℤ) → IsStart setup row a.cycle a.frame a.device start → IsSent setup row a.cycle a.device port a.frame start =
+      let sent : (start : ℤ) → IsStart setup row a.cycle a.frame a.device start → IsSentAt setup row a.cycle a.device port a.frame start =
       λ start starts. record { entry = e; stands = at; due = due; leaves = leaves; live = live; starts = starts } in
       elim (absolute_cases plant a.device) [
         | inl absolute ↦
@@ -270,6 +270,6 @@ module _ (plant : Plant) (bundles : List Bundle) (plan : IsPlan plant bundles) (
     delivered = λ world ranges d is.
         let w = (delivers_arrivals world).only d is in
         let range = all_at (IsInRange setup) world d.cycle w.row ranges w.in_cycle in
-        subst (IsNear plant d.cycle) (sym w.ends) (arrives_near w.row range w.from
+        subst (IsNearCycle plant d.cycle) (sym w.ends) (arrives_near w.row range w.from
         (record { cycle = d.cycle; device = d.device; port = w.port; frame = d.frame; start = w.start }) w.arrives).end;
   }

@@ -43,7 +43,7 @@ EntriesAreAlike setup = (frame u v : ℕ) (d e : Entry) → entry_at setup u fra
 -- ---- starts and arrivals
 
 -- A device sends a frame by a port in cycle k from this time on: what an occupation says of its start, in one row.
-pub record IsSent (setup : Setup) (row : WorldRow) (k device port frame : ℕ) (start : ℤ) : Type 0 where
+pub record IsSentAt (setup : Setup) (row : WorldRow) (k device port frame : ℕ) (start : ℤ) : Type 0 where
   pub entry : Entry
   pub stands : entry_at setup device frame ≡ Some entry
   pub due : IsDue k entry.ratio entry.phase
@@ -53,7 +53,7 @@ pub record IsSent (setup : Setup) (row : WorldRow) (k device port frame : ℕ) (
 
 -- What is sent over a link that is not cut arrives at its other end, once.
 abbrev pub ArrivesOnce : Setup → Type 0
-ArrivesOnce setup = (row : WorldRow) (k device port frame far gate : ℕ) (sent : ℤ) → (is : IsSent setup row k device port frame sent) →
+ArrivesOnce setup = (row : WorldRow) (k device port frame far gate : ℕ) (sent : ℤ) → (is : IsSentAt setup row k device port frame sent) →
     IsUncut setup.plant row device port → peer_of setup.plant device port ≡ Some (record { 0 = far }, record { 0 = gate }) →
     ExactlyOne (λ (start : ℤ). IsArrival setup row is.entry (record { cycle = k; device = far; port = gate; frame = frame; start = start }))
 
@@ -74,7 +74,7 @@ MeetsArrivals setup = (row : WorldRow) (from : Entry) (a : Arrival) (is : IsArri
 -- its bridge delay later.
 pub record IsSentOn (setup : Setup) (row : WorldRow) (a : Arrival) (e : Entry) (port : ℕ) : Type 0 where
   pub start : ℤ
-  pub sent : IsSent setup row a.cycle a.device port a.frame start
+  pub sent : IsSentAt setup row a.cycle a.device port a.frame start
   pub absolute : IsAbsolute setup.plant a.device → start ≡ (pos (a.cycle * cycle_time setup.plant.factor + e.send_offset) +ℤ row.error a.device)
   pub relative : ¬ IsAbsolute setup.plant a.device → start ≡ (a.start +ℤ pos (row.bridge a.device a.frame))
   pub later : a.start ≤ℤ start
@@ -85,7 +85,7 @@ SendsOn setup = (row : WorldRow) → IsInRange setup row → (from : Entry) (a :
     IsInStep setup.plant row a.device → entry_at setup a.device a.frame ≡ Some e → Leaves e port → IsSentOn setup row a e port
 
 -- A delivery is an arrival that a device in step has whole: a wire time after it begins.
-pub record IsWhole (setup : Setup) (world : List WorldRow) (d : Delivery) : Type 0 where
+pub record IsWholeArrival (setup : Setup) (world : List WorldRow) (d : Delivery) : Type 0 where
   pub row : WorldRow
   pub from : Entry
   pub port : ℕ
@@ -100,28 +100,28 @@ pub record DeliversArrivals (setup : Setup) (world : List WorldRow) : Type 0 whe
   pub each : (row : WorldRow) (from : Entry) (a : Arrival) (e : Entry) → slice_get world a.cycle ≡ Some row → IsArrival setup row from a →
       IsInStep setup.plant row a.device → entry_at setup a.device a.frame ≡ Some e → IsBitSet e.tx 0 →
       IsDelivery setup world (record { cycle = a.cycle; device = a.device; frame = a.frame; end = a.start +ℤ pos (wire_time from.data_length) })
-  pub only : (d : Delivery) → IsDelivery setup world d → IsWhole setup world d
+  pub only : (d : Delivery) → IsDelivery setup world d → IsWholeArrival setup world d
 
 -- ---- times
 
 -- A time that belongs to cycle k, in true ns: from a window before the cycle begins to a window before it ends. With
 -- cycles of 1000000 and a window of 1000 those of cycle 1 are 999000 to 1999000.
-pub record IsNear (plant : Plant) (k : ℕ) (at : ℤ) : Type 0 where
+pub record IsNearCycle (plant : Plant) (k : ℕ) (at : ℤ) : Type 0 where
   pub low : pos (k * cycle_time plant.factor) ≤ℤ (at +ℤ pos plant.window)
   pub high : (at +ℤ pos plant.window) ≤ℤ pos ((k + 1) * cycle_time plant.factor)
 
 -- a frame of so many bytes that is on the wire from a start on, near its cycle from begin to end
 pub record StaysNear (plant : Plant) (k bytes : ℕ) (start : ℤ) : Type 0 where
-  pub begin : IsNear plant k start
-  pub end : IsNear plant k (start +ℤ pos (wire_time bytes))
+  pub begin : IsNearCycle plant k start
+  pub end : IsNearCycle plant k (start +ℤ pos (wire_time bytes))
 
 -- What is sent, arrives and is delivered stays near its cycle.
 pub record AllNear (setup : Setup) : Type 0 where
-  pub sent : (row : WorldRow) → IsInRange setup row → (k device port frame : ℕ) (start : ℤ) → (is : IsSent setup row k device port frame start) →
+  pub sent : (row : WorldRow) → IsInRange setup row → (k device port frame : ℕ) (start : ℤ) → (is : IsSentAt setup row k device port frame start) →
       StaysNear setup.plant k is.entry.data_length start
   pub arrives : (row : WorldRow) → IsInRange setup row → (from : Entry) (a : Arrival) → IsArrival setup row from a →
       StaysNear setup.plant a.cycle from.data_length a.start
-  pub delivered : (world : List WorldRow) → All (IsInRange setup) world → (d : Delivery) → IsDelivery setup world d → IsNear setup.plant d.cycle d.end
+  pub delivered : (world : List WorldRow) → All (IsInRange setup) world → (d : Delivery) → IsDelivery setup world d → IsNearCycle setup.plant d.cycle d.end
 
 -- A fact of all accepted plans.
 abbrev pub ForAccepted : (Setup → Type 0) → Type 0

@@ -25,7 +25,7 @@ pub record IsDueFrame (setup : Setup) (k frame : ℕ) (demand : Demand) : Type 0
 
 -- A device has to send a frame by a port in a cycle: the frame is due and leaves there, and its route to the device
 -- is live.
-pub record IsSender (setup : Setup) (world : List WorldRow) (k device port frame : ℕ) : Type 0 where
+pub record HasToSend (setup : Setup) (world : List WorldRow) (k device port frame : ℕ) : Type 0 where
   pub row : WorldRow
   pub demand : Demand
   pub entry : Entry
@@ -35,8 +35,8 @@ pub record IsSender (setup : Setup) (world : List WorldRow) (k device port frame
   pub leaves : Leaves entry port
   pub live : IsLive setup row frame device
 
--- A frame has to come to a device in a cycle: it is due, the device consumes it, and the route to the device is live.
-pub record IsRecipient (setup : Setup) (world : List WorldRow) (k device frame : ℕ) : Type 0 where
+-- A frame has to reach a device in a cycle: it is due, the device consumes it, and the route to the device is live.
+pub record HasToReach (setup : Setup) (world : List WorldRow) (k device frame : ℕ) : Type 0 where
   pub row : WorldRow
   pub demand : Demand
   pub in_cycle : slice_get world k ≡ Some row
@@ -50,15 +50,15 @@ StartsOnce setup row k = (device frame : ℕ) → IsLive setup row frame device 
 
 -- The ports that have to send a frame do so, each from one start to one end, and no others do.
 pub record SendsExactly (setup : Setup) (world : List WorldRow) : Type 0 where
-  pub sent : (k device port frame : ℕ) → IsSender setup world k device port frame → ExactlyOne (λ (times : ℤ × ℤ).
+  pub sent : (k device port frame : ℕ) → HasToSend setup world k device port frame → ExactlyOne (λ (times : ℤ × ℤ).
       IsOccupation setup world (record { cycle = k; device = device; port = port; frame = frame; start = times.0; end = times.1 }))
-  pub only : (o : Occupation) → IsOccupation setup world o → IsSender setup world o.cycle o.device o.port o.frame
+  pub only : (o : Occupation) → IsOccupation setup world o → HasToSend setup world o.cycle o.device o.port o.frame
 
--- A frame reaches those that it has to come to, each at one time, and nobody else.
+-- A frame reaches those that it has to reach, each at one time, and nobody else.
 pub record ReachesExactly (setup : Setup) (world : List WorldRow) : Type 0 where
-  pub reached : (k device frame : ℕ) → IsRecipient setup world k device frame → ExactlyOne (λ (end : ℤ).
+  pub reached : (k device frame : ℕ) → HasToReach setup world k device frame → ExactlyOne (λ (end : ℤ).
       IsDelivery setup world (record { cycle = k; device = device; frame = frame; end = end }))
-  pub only : (d : Delivery) → IsDelivery setup world d → IsRecipient setup world d.cycle d.device d.frame
+  pub only : (d : Delivery) → IsDelivery setup world d → HasToReach setup world d.cycle d.device d.frame
 
 -- all devices are in step and no link is cut
 pub record IsUndisturbed (plant : Plant) (row : WorldRow) : Type 0 where
