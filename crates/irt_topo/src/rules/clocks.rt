@@ -85,9 +85,10 @@ fn hops_within(plant: &Plant, device: usize) -> Option<u32>
     ensures { result ≡ hops_within plant.now device }
 {
     let mut reached = first_reached();
-    for rounds in 0..=plant.window {
+    let most = u64::from(plant.window) + 1;
+    for rounds in 0..most {
         if reached[device] {
-            return Some(rounds);
+            return Some(rounds as u32);
         }
         let before = reached;
         spread(plant.links.as_slice(), &before, &mut reached);
