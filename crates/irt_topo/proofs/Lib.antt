@@ -1,8 +1,11 @@
 pub mod Documents
+pub mod Facts
+pub mod FirstFailure
 pub mod ItemTests
 pub mod LeastFrom
 pub mod Meeting
 pub mod Passing
 pub mod Rounds
+pub mod Refusals
 pub mod RuleLaws
 pub mod Walks

@@ -2,6 +2,7 @@
 #![tactic(auto)]
 
 pub mod fault;
+pub mod law;
 pub mod read;
 pub mod rules;
 pub mod stated;

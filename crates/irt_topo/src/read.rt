@@ -1,8 +1,11 @@
 //! Reading plant files.
 
-ghost use Rattle.std.specs.Prelude.{◌≡◌, IfOk};
+ghost use Rattle.std.specs.Prelude.{◌≡◌, Err, IfErr, IfOk, min};
 ghost use Rattle.plant_rules.specs.Meets.{MeetsRules};
-ghost use Rattle.irt_topo.specs.Reading.{IsPlantAnswer, IsPlantDocument, plant_of, shape_fault, rule_fault};
+ghost use Rattle.irt_topo.specs.Reading.{PlantRefusal, IsPlantAnswer, IsPlantDocument, IsFaultOf, IsRefusal, plant_of};
+ghost use Rattle.irt_topo.specs.Rules.{number_of};
+ghost use Rattle.irt_topo.specs.Stated.{in_two_bytes};
+ghost use Rattle.irt_topo.specs.declared.fault.PlantFault.TheVariants as faults;
 
 use crate::fault::PlantFault;
 use crate::rules::{Rule, first_failure};
@@ -18,8 +21,11 @@ pub fn read_plant(alloc: Global, bytes: &[u8]) -> Result<Plant, PlantFault>
     ensures answer { IsPlantAnswer result (plant_of bytes.now) }
     ensures document { IfOk result (IsPlantDocument bytes.now) }
     ensures rules { IfOk result MeetsRules }
+    ensures refused { IfErr result (IsFaultOf bytes.now) }
     // A file that is a plant's is read, memory aside, as that plant and no other.
     ensures only { (p : Plant) → IsPlantDocument bytes.now p → IsPlantAnswer result (Ok p) }
+    // Bytes with a refusal are refused by it, memory aside, and by no other.
+    ensures refuses { (refusal : PlantRefusal) → IsRefusal bytes.now refusal → IsPlantAnswer result (Err refusal) }
 {
     judged_plant(alloc, bytes)
 }
@@ -29,7 +35,14 @@ fn judged_plant(alloc: Global, bytes: &[u8]) -> Result<Plant, PlantFault>
 {
     let raw = match read_shape(alloc, bytes) {
         Ok(raw) => raw,
-        Err(fault) => return Err(shape_fault(fault)),
+        Err(ShapeFault::NoMemory) => return Err(PlantFault::NoMemory),
+        Err(ShapeFault::NotToml) => return Err(PlantFault::NotToml),
+        Err(ShapeFault::Shape) => {
+            return Err(PlantFault::Rule {
+                number: 1,
+                index: 0,
+            });
+        }
     };
     let plant = stated_plant(alloc, raw)?;
     match first_failure(&plant) {
@@ -38,21 +51,8 @@ fn judged_plant(alloc: Global, bytes: &[u8]) -> Result<Plant, PlantFault>
     }
 }
 
-fn shape_fault(fault: ShapeFault) -> PlantFault
-    ensures { result ≡ shape_fault fault }
-{
-    match fault {
-        ShapeFault::NoMemory => PlantFault::NoMemory,
-        ShapeFault::NotToml => PlantFault::NotToml,
-        ShapeFault::Shape => PlantFault::Rule {
-            number: 1,
-            index: 0,
-        },
-    }
-}
-
 fn rule_fault(rule: Rule, index: usize) -> PlantFault
-    ensures { result ≡ rule_fault rule index }
+    ensures { result ≡ faults.Rule (number_of rule) (in_two_bytes index) }
 {
     PlantFault::Rule {
         number: rule.number(),

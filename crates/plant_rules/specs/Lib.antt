@@ -1,3 +1,4 @@
 pub mod Clocks
 pub mod Meets
+pub mod Rules
 pub mod Words

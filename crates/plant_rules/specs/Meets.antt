@@ -28,26 +28,58 @@ pub record IsName (name : List ℕ) : Type 0 where
   pub length : IsWithin 1 MAX_NAME (length name)
   pub letters : AllByRecursion IsNameByte name
 
+-- the parts of P7 and of P8
+abbrev pub HasPortCount : Device → Type 0
+HasPortCount d = IsWithin 1 MAX_PORTS (length d.ports)
+
+abbrev pub HasPortDelays : Device → Type 0
+HasPortDelays d = AllByRecursion IsPortDelay d.ports
+
+abbrev pub HasBridgeOrder : Device → Type 0
+HasBridgeOrder d = d.bmin ≤ d.bmax
+
+abbrev pub HasBridgeLimit : Device → Type 0
+HasBridgeLimit d = d.bmax ≤ MAX_DELAY
+
 -- P6, P7 and P8 of one device
 pub record IsDevice (d : Device) : Type 0 where
   pub name : IsName d.name
-  pub port_count : IsWithin 1 MAX_PORTS (length d.ports)
-  pub ports : AllByRecursion IsPortDelay d.ports
-  pub bridge_order : d.bmin ≤ d.bmax
-  pub bridge : d.bmax ≤ MAX_DELAY
+  pub port_count : HasPortCount d
+  pub ports : HasPortDelays d
+  pub bridge_order : HasBridgeOrder d
+  pub bridge : HasBridgeLimit d
 
 -- the device has a port of this number
 abbrev pub HasPort : Plant → ℕ → ℕ → Type 0
 HasPort p device port = has_port p device port ≡ true
 
+-- the parts of P9 and of P10
+abbrev pub HasFirstPort : Plant → Link → Type 0
+HasFirstPort p l = HasPort p l.a.0 l.a_port.0
+
+abbrev pub HasSecondPort : Plant → Link → Type 0
+HasSecondPort p l = HasPort p l.b.0 l.b_port.0
+
+abbrev pub HasTwoDevices : Link → Type 0
+HasTwoDevices l = (l.a.0 == l.b.0) ≡ false
+
+abbrev pub HasDelayLimit : Link → Type 0
+HasDelayLimit l = l.delay ≤ MAX_DELAY
+
+abbrev pub FitsThere : Plant → Link → Type 0
+FitsThere p l = FitsCycle p (p.red_max + hop_there p l)
+
+abbrev pub FitsBack : Plant → Link → Type 0
+FitsBack p l = FitsCycle p (p.red_max + hop_back p l)
+
 -- P9 and P10 of one link
 pub record IsLink (p : Plant) (l : Link) : Type 0 where
-  pub first_port : HasPort p l.a.0 l.a_port.0
-  pub second_port : HasPort p l.b.0 l.b_port.0
-  pub two_devices : (l.a.0 == l.b.0) ≡ false
-  pub delay : l.delay ≤ MAX_DELAY
-  pub there : FitsCycle p (p.red_max + hop_there p l)
-  pub back : FitsCycle p (p.red_max + hop_back p l)
+  pub first_port : HasFirstPort p l
+  pub second_port : HasSecondPort p l
+  pub two_devices : HasTwoDevices l
+  pub delay : HasDelayLimit l
+  pub there : FitsThere p l
+  pub back : FitsBack p l
 
 -- a consumer of a demand
 pub record IsConsumer (p : Plant) (provider : DevId) (c : DevId) : Type 0 where
@@ -57,15 +89,37 @@ pub record IsConsumer (p : Plant) (provider : DevId) (c : DevId) : Type 0 where
 abbrev pub same_device : DevId → DevId → Bool
 same_device d e = e.0 == d.0
 
+-- the parts of P11 to P14
+abbrev pub HasPlanFrame : Demand → Type 0
+HasPlanFrame d = IsWithin MIN_FRAME MAX_FRAME d.frame.0
+
+abbrev pub HasProvider : Plant → Demand → Type 0
+HasProvider p d = d.provider.0 < length p.devices
+
+abbrev pub HasSomeConsumer : Demand → Type 0
+HasSomeConsumer d = 1 ≤ length d.consumers
+
+abbrev pub HasConsumers : Plant → Demand → Type 0
+HasConsumers p d = AllByRecursion (IsConsumer p d.provider) d.consumers
+
+abbrev pub HasOtherConsumers : Demand → Type 0
+HasOtherConsumers d = IsDistinct same_device d.consumers
+
+abbrev pub HasDataLength : Demand → Type 0
+HasDataLength d = IsDataLength d.length
+
+abbrev pub HasUpdate : Plant → Demand → Type 0
+HasUpdate p d = cycle_time p.factor ≤ d.update
+
 -- P11 to P14 of one demand
 pub record IsDemand (p : Plant) (d : Demand) : Type 0 where
-  pub frame : IsWithin MIN_FRAME MAX_FRAME d.frame.0
-  pub provider : d.provider.0 < length p.devices
-  pub some_consumer : 1 ≤ length d.consumers
-  pub consumers : AllByRecursion (IsConsumer p d.provider) d.consumers
-  pub consumers_differ : IsDistinct same_device d.consumers
-  pub length : IsDataLength d.length
-  pub update : cycle_time p.factor ≤ d.update
+  pub frame : HasPlanFrame d
+  pub provider : HasProvider p d
+  pub some_consumer : HasSomeConsumer d
+  pub consumers : HasConsumers p d
+  pub consumers_differ : HasOtherConsumers d
+  pub length : HasDataLength d
+  pub update : HasUpdate p d
 
 -- P15 of one entry
 pub record IsTraffic (p : Plant) (t : Traffic) : Type 0 where
@@ -93,12 +147,25 @@ pub record IsSyncPlan (s : SyncPlan) : Type 0 where
   pub stamp : s.stamp ≤ MAX_STAMP
   pub loss : (s.loss ≡ 0) ⊎ IsWithin MIN_LOSS MAX_LOSS s.loss
 
--- a plant that meets P2..P18
+-- P2 to P5
+abbrev pub HasFactor : Plant → Type 0
+HasFactor p = IsWithin 1 MAX_FACTOR p.factor
+
+abbrev pub HasWindow : Plant → Type 0
+HasWindow p = p.window ≤ MAX_WINDOW
+
+abbrev pub HasPeriods : Plant → Type 0
+HasPeriods p = FitsCycle p (p.red_max + p.orange)
+
+abbrev pub HasDeviceCount : Plant → Type 0
+HasDeviceCount p = IsWithin MIN_DEVICES MAX_DEVICES (length p.devices)
+
+-- a plant that meets P2..P18, list by list
 pub record MeetsRules (p : Plant) : Type 0 where
-  pub factor : IsWithin 1 MAX_FACTOR p.factor
-  pub window : p.window ≤ MAX_WINDOW
-  pub periods : FitsCycle p (p.red_max + p.orange)
-  pub device_count : IsWithin MIN_DEVICES MAX_DEVICES (length p.devices)
+  pub factor : HasFactor p
+  pub window : HasWindow p
+  pub periods : HasPeriods p
+  pub device_count : HasDeviceCount p
   pub devices : AllByRecursion IsDevice p.devices
   pub names_differ : IsDistinct same_name p.devices
   pub links : AllByRecursion (IsLink p) p.links

@@ -3,6 +3,7 @@ use Rattle.std.specs.Prelude.{ℕ, ◌+◌, ◌/◌, ◌==◌, nat_le, Bool, fal
 use Rattle.std.specs.List.{list_any}
 use Rattle.std.specs.Option.{option_map_or}
 use Rattle.irt_base.specs.Wiring.{tx_delay, rx_delay}
+use Rattle.irt_base.specs.declared.limits.TheConstants.{WORD_BYTES}
 use Rattle.irt_base.specs.declared.numbers.DevId.{DevId}
 use Rattle.irt_base.specs.declared.numbers.PortNo.{PortNo}
 use Rattle.irt_base.specs.declared.plants.Device.{Device}
@@ -44,15 +45,16 @@ same_frame d e = d.frame.0 == e.frame.0
 abbrev pub same_app_device : App → App → Bool
 same_app_device a b = a.device.0 == b.device.0
 
--- the words of a demand that a device consumes, and provides
+-- a device consumes a demand, and provides it
 abbrev pub consumes : ℕ → Demand → Bool
 consumes device d = list_any (λ (c : DevId). c.0 == device) d.consumers
 
 abbrev pub provides : ℕ → Demand → Bool
 provides device d = d.provider.0 == device
 
-abbrev pub words_of : Demand → ℕ
-words_of d = d.length / 8
+-- the words of a demand's data: 40 bytes are 5
+abbrev pub demand_words : Demand → ℕ
+demand_words d = d.length / WORD_BYTES
 
 abbrev pub words_where : (Demand → Bool) → List Demand → ℕ
-words_where test demands = sum_by (λ d. if test d then words_of d else 0) demands
+words_where test demands = sum_by (λ d. if test d then demand_words d else 0) demands

@@ -197,22 +197,29 @@ raw_plant document = do
 abbrev pub document_of : List ℕ → Option Members
 document_of bytes = if is_utf8 bytes then parse_document bytes else None
 
+-- why bytes have no shape of a plant: they are no TOML document, or one without a plant's keys, types and choices
+pub data ShapeRefusal : Type 0 where
+  not_toml : ShapeRefusal
+  no_shape : ShapeRefusal
+
 -- a document's plant, or what it lacks
-abbrev pub table_shape : Option RawPlant → Result RawPlant ShapeFault
-table_shape None = Err faults.Shape
+abbrev pub table_shape : Option RawPlant → Result RawPlant ShapeRefusal
+table_shape None = Err no_shape
 table_shape (Some p) = Ok p
 
-abbrev pub document_shape : Option Members → Result RawPlant ShapeFault
-document_shape None = Err faults.NotToml
+abbrev pub document_shape : Option Members → Result RawPlant ShapeRefusal
+document_shape None = Err not_toml
 document_shape (Some ms) = table_shape (raw_plant ms)
 
-abbrev pub shape_of : List ℕ → Result RawPlant ShapeFault
+abbrev pub shape_of : List ℕ → Result RawPlant ShapeRefusal
 shape_of bytes = document_shape (document_of bytes)
 
 -- an answer is the one that is stated, or want of memory
-abbrev pub IsShapeAnswer : Result RawPlant ShapeFault → Result RawPlant ShapeFault → Type 0
+abbrev pub IsShapeAnswer : Result RawPlant ShapeFault → Result RawPlant ShapeRefusal → Type 0
+IsShapeAnswer (Ok raw) stated = stated ≡ Ok raw
 IsShapeAnswer (Err faults.NoMemory) stated = ⊤
-IsShapeAnswer given stated = stated ≡ given
+IsShapeAnswer (Err faults.NotToml) stated = stated ≡ Err not_toml
+IsShapeAnswer (Err faults.Shape) stated = stated ≡ Err no_shape
 
 -- for a loop over an array: what is left of it, with a front before
 abbrev pub rest_of : {A : Type 0} → (Data → Option A) → List A → DataItems → Option (List A)

@@ -2,12 +2,12 @@
 
 ghost use Rattle.std.specs.Prelude.{◌≡◌, ◌==◌, ◌%◌, ◌&&◌, not, nat_le, take, drop};
 ghost use Rattle.std.specs.List.{list_any, list_all};
-ghost use Rattle.plant_rules.specs.Words.{is_within, consumes, provides, words_of, words_where};
+ghost use Rattle.plant_rules.specs.Words.{is_within, consumes, provides, demand_words, words_where};
 ghost use Rattle.irt_topo.specs.Rules.{is_device, all_differ, frame_holds, demand_ends_hold, length_holds, update_holds, words_hold, passes_at};
 
 use irt_base::cycles::cycle_length;
 use irt_base::limits::{
-    DATA_STEP, MAX_DATA, MAX_DEMANDS, MAX_FRAME, MAX_WORDS, MIN_DATA, MIN_FRAME,
+    DATA_STEP, MAX_DATA, MAX_DEMANDS, MAX_FRAME, MAX_WORDS, MIN_DATA, MIN_FRAME, WORD_BYTES,
 };
 use irt_base::numbers::{DevId, FrameId};
 use irt_base::plants::{Demand, Plant};
@@ -128,10 +128,10 @@ fn consumed_fit(demands: &[Demand], device: usize) -> bool
     let mut left = MAX_WORDS;
     for demand in demands {
         if consumes(demand, device) {
-            if words_of(demand) > left {
+            if demand_words(demand) > left {
                 return false;
             }
-            left -= words_of(demand);
+            left -= demand_words(demand);
         }
     }
     true
@@ -143,10 +143,10 @@ fn provided_fit(demands: &[Demand], device: usize) -> bool
     let mut left = MAX_WORDS;
     for demand in demands {
         if provides(demand, device) {
-            if words_of(demand) > left {
+            if demand_words(demand) > left {
                 return false;
             }
-            left -= words_of(demand);
+            left -= demand_words(demand);
         }
     }
     true
@@ -168,8 +168,8 @@ fn provides(demand: &Demand, device: usize) -> bool
     usize::from(demand.provider.0) == device
 }
 
-fn words_of(demand: &Demand) -> u32
-    ensures { result ≡ words_of demand.now }
+fn demand_words(demand: &Demand) -> u32
+    ensures { result ≡ demand_words demand.now }
 {
-    u32::from(demand.length / 8)
+    u32::from(demand.length) / WORD_BYTES as u32
 }
