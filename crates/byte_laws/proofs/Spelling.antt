@@ -1,5 +1,5 @@
 -- Reading and spelling are one where what is read is spelled so, and what is spelled is read back.
-use Rattle.std.proofs.Common.{◌≡◌, ℕ, ◌<◌, List, Option, Some, None, Result, Ok, Err, refl, sym, ap, ◌∙◌}
+use Rattle.std.proofs.Common.{◌≡◌, ℕ, List, Option, Some, None, Result, Ok, Err, refl, ap, ◌∙◌}
 use Rattle.std.specs.Prelude.{IsErr}
 use Rattle.byte_laws.specs.Spelling.{IsBytes, unless_fault, ReadingIsSpelling}
 

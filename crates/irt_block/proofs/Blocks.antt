@@ -13,7 +13,7 @@ use Rattle.byte_laws.specs.Spelling.{IsBytes, ReadingIsSpelling}
 use Rattle.byte_laws.proofs.Spelling.{one_spelling}
 use Rattle.byte_laws.proofs.Words.{IsBytes-drop, IsBytes-take}
 use Rattle.irt_block.proofs.Numbers.{length-spelled, number_in-spelled, number_in-lt, spelled-number_in}
-use Rattle.irt_block.proofs.Steps.{bind_ok, guard_not, guard_so, guard_past, done, ok_is, Takes, Takes-then, failed, sure_ok, sure_err, sure_missing, sure_if, sure_bind, sure_map, sure_along}
+use Rattle.irt_block.proofs.Steps.{bind_ok, guard_not, guard_so, guard_past, done, ok_is, after_ok, Takes, Takes-then, failed, sure_ok, sure_err, sure_missing, sure_if, sure_bind, sure_map}
 use Rattle.irt_block.proofs.Codec.{Codec, pair_read, pair_sure, IsView, view_takes, view_sure}
 
 -- ---- the header
@@ -172,7 +172,7 @@ block_takes {A} id body extent bytes x fits e =
     let size = h.0 in
     let fields : List ℕ = take (size - 6) (drop 6 bytes) in
     let opened : Extent × (List ℕ × List ℕ) = (inner_of extent bytes size, (fields, drop size bytes)) in
-    let go = subst (λ (block : Extent × (List ℕ × List ℕ)). (body.read block.0 block.1.0 >>= λ value. ended_at block.0 value.1 >>= λ _. Ok (value.0, block.1.1)) ≡ Ok x) (sym (ok_is opened o.0 h.2)) o.2 in
+    let go = after_ok opened o.0 (λ block. body.read block.0 block.1.0 >>= λ value. ended_at block.0 value.1 >>= λ _. Ok (value.0, block.1.1)) x h.2 o.2 in
     let v = bind_ok (body.read opened.0 fields) (λ value. ended_at opened.0 value.1 >>= λ _. Ok (value.0, drop size bytes)) x go in
     let u = bind_ok (ended_at opened.0 v.0.1) (λ _. Ok (v.0.0, drop size bytes)) x v.2 in
     let none : v.0.1 ≡ [] = left_none opened.0 v.0.1 u.0 u.1 in

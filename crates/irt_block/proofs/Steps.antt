@@ -6,7 +6,7 @@ use Rattle.irt_block.specs.declared.fault.BlockKind.TheVariants as kinds
 use Rattle.irt_block.specs.declared.extent.Extent.{Extent}
 use Rattle.irt_block.specs.declared.extent.Holder.{Holder}
 use Rattle.irt_block.specs.declared.extent.Holder.TheVariants as holders
-use Rattle.irt_block.specs.Reading.{◌>>=◌, IsSure, fault_at, missing_in, missing_of}
+use Rattle.irt_block.specs.Reading.{◌>>=◌, IsSure, missing_in, missing_of}
 use Rattle.byte_laws.specs.Spelling.{IsBytes}
 
 -- the value of a step that did not fail
@@ -38,6 +38,10 @@ done x = Ok x
 
 pub ok_is : {A : Type 0} (x y : A) → done x ≡ done y → x ≡ y
 ok_is x y e = cc
+
+-- what follows a step, at the value that it gave
+pub after_ok : {A B : Type 0} (x y : A) (f : A → Result B BlockFault) (z : B) → done x ≡ done y → f y ≡ Ok z → f x ≡ Ok z
+after_ok x y f z e h = ap f (ok_is x y e) ∙ h
 
 -- what a reader took from the front
 pub record Takes (bytes text rest : List ℕ) : Type 0 where

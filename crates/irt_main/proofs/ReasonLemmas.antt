@@ -3,7 +3,7 @@ use Rattle.std.proofs.Common.{◌≡◌, ◌≢◌, ◌⊎◌, inl, inr, ℕ, Li
 use Rattle.irt_base.specs.declared.limits.TheConstants.{PLANT_FILE, DEVICE_FILE}
 use Rattle.irt_base.specs.declared.blocks.Bundle.{Bundle}
 use Rattle.irt_base.specs.declared.plants.Plant.{Plant}
-use Rattle.irt_bundle.proofs.Laws.{bundle_found}
+use Rattle.irt_bundle.proofs.Laws.{bundle_law}
 use Rattle.irt_io.specs.Files.{Files}
 use Rattle.irt_show.specs.Show.{bundle_text}
 use Rattle.irt_steps.specs.Steps.{Ending, ending, gives, after, Comes, LoadsNext}
@@ -106,7 +106,7 @@ show_reason files new words name result none is comes = elim (comes_by (bundle_s
   | inl (b, mid, first, (so, kept)) ↦
       let read = (bundle_file files mid name b first).1 in
       shows name none is
-      (record { bundle = b; file = read; spelled = λ bytes. bundle_found read.bytes (Ok b) bytes read.read; is = ap (λ r. (ended r).text) so })
+      (record { bundle = b; file = read; spelled = λ bytes. (bundle_law.reads read.bytes b bytes).0 read.read; is = ap (λ r. (ended r).text) so })
       (ap (λ r. (ended r).status) so)
 ]
 

@@ -1,9 +1,6 @@
 -- The delays of a device are a codec.
-use Rattle.std.proofs.Common.{◌≡◌, ℕ, ◌+◌, ◌*◌, ◌<◌, List, ◌++◌, length, lit<, Result, Ok, Err, refl, sym, ap, subst, ◌∙◌, append_assoc, arith}
-use Rattle.std.specs.Prelude.{replicate, IfOk}
+use Rattle.std.proofs.Common.{◌≡◌, ℕ, ◌+◌, ◌*◌, List, length, lit<, Ok, refl, sym, ap, subst, append_assoc, arith}
 use Rattle.std.specs.List.{flat_map}
-use Rattle.std.proofs.lemmas.List.{length-append}
-use Rattle.irt_block.specs.declared.fault.BlockFault.{BlockFault}
 use Rattle.irt_block.specs.declared.extent.Extent.{Extent}
 use Rattle.byte_laws.specs.Spelling.{ReadingIsSpelling}
 use Rattle.irt_block.specs.Header.{whole_of}
@@ -11,7 +8,7 @@ use Rattle.irt_base.specs.declared.limits.TheConstants.{MAX_DELAY, MAX_PORTS}
 use Rattle.irt_base.specs.declared.blocks.PortDelay.{PortDelay}
 use Rattle.irt_base.specs.declared.blocks.GlobalBlock.{GlobalBlock}
 use Rattle.irt_base.specs.Valid.{IsWithin, IsPortDelay, IsGlobalBlock}
-use Rattle.irt_block.specs.Reading.{◌>>=◌, Gives, spelled, within}
+use Rattle.irt_block.specs.Reading.{◌>>=◌, spelled, within}
 use Rattle.irt_block.proofs.Rules.{within_rule, within_again, length-items, given, both, spelled_size, zeros_size}
 use Rattle.irt_block.proofs.Codec.{Codec, raw, ruled, padding, pair, pair_steps, repeat, view}
 use Rattle.irt_block.proofs.Blocks.{block, ended, whole_law}

@@ -1,8 +1,6 @@
 -- A sync block is a codec.
-use Rattle.std.proofs.Common.{◌≡◌, ℕ, zero, suc, true, ◌+◌, ◌%◌, ◌≤◌, ◌<◌, List, ◌++◌, length, take, lit<, Result, Ok, Err, refl, sym, ap, subst, ◌∙◌, append_assoc, arith}
-use Rattle.std.specs.Prelude.{replicate, IfOk}
-use Rattle.std.proofs.lemmas.List.{length-append}
-use Rattle.irt_block.specs.declared.fault.BlockFault.{BlockFault}
+use Rattle.std.proofs.Common.{◌≡◌, ℕ, zero, suc, true, ◌+◌, ◌%◌, ◌≤◌, List, ◌++◌, length, take, lit<, Ok, refl, sym, ap, subst, ◌∙◌, append_assoc, arith}
+use Rattle.std.specs.Prelude.{replicate}
 use Rattle.irt_block.specs.declared.extent.Extent.{Extent}
 use Rattle.byte_laws.specs.Spelling.{ReadingIsSpelling}
 use Rattle.irt_block.specs.Header.{whole_of, header_bytes}
@@ -10,7 +8,7 @@ use Rattle.irt_base.specs.declared.limits.TheConstants.{MAX_WINDOW, MAX_FACTOR, 
 use Rattle.irt_base.specs.declared.blocks.SyncBlock.{SyncBlock}
 use Rattle.irt_base.specs.Valid.{IsWithin, IsDomainByte, IsSyncBlock}
 use Rattle.irt_block.specs.declared.bytes.ByteClass.TheVariants.{Letter}
-use Rattle.irt_block.specs.Reading.{◌>>=◌, Gives, spelled, within, is_of}
+use Rattle.irt_block.specs.Reading.{◌>>=◌, spelled, within, is_of}
 use Rattle.irt_block.proofs.Rules.{within_rule, within_again, letter_rule, letter_again, all_so, Sized, given, both, spelled_size, zeros_size}
 use Rattle.irt_block.proofs.Codec.{Codec, raw, number, ruled, constant, of_class, padding, pair, pair_steps, view}
 use Rattle.irt_block.proofs.Blocks.{block, ended, whole_law, length-header}

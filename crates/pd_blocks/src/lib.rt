@@ -4,8 +4,8 @@
 //! are this project's own.
 #![tactic(auto)]
 
-pub mod law;
 mod global;
+pub mod law;
 mod sync;
 
 pub use global::{global_at, read_global, write_global};

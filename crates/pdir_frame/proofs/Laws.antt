@@ -1,5 +1,5 @@
 -- Entries by ascending FrameID up to the block's end, and the whole block.
-use Rattle.std.proofs.Common.{◌≡◌, ℕ, zero, suc, ◌+◌, ◌*◌, ◌^◌, ◌≤◌, ◌<◌, ◌==◌, Bool, true, false, List, [], ◌∷◌, ◌++◌, length, lit<, lit≤, inl, inr, Result, Ok, Err, refl, ap, subst, ◌∙◌, append_assoc, arith, slice_index}
+use Rattle.std.proofs.Common.{◌≡◌, ℕ, zero, suc, ◌+◌, ◌*◌, ◌^◌, ◌≤◌, ◌<◌, ◌==◌, Bool, true, false, List, [], ◌∷◌, ◌++◌, length, lit<, lit≤, inl, inr, Ok, refl, ap, subst, ◌∙◌, append_assoc, arith, slice_index}
 use Rattle.std.specs.Prelude.{replicate}
 use Rattle.std.specs.List.{AllByRecursion, flat_map}
 use Rattle.std.specs.List.Sorted.{IsStrictlyIncreasing}
@@ -9,9 +9,7 @@ use Rattle.irt_base.specs.declared.limits.TheConstants.{MIN_FRAME, MAX_DEMANDS}
 use Rattle.irt_base.specs.declared.blocks.Entry.{Entry}
 use Rattle.irt_base.specs.declared.blocks.FrameBlock.{FrameBlock}
 use Rattle.irt_base.specs.Valid.{IsEntry, IsFrameBlock, frames_of}
-use Rattle.irt_block.specs.declared.fault.BlockFault.{BlockFault}
 use Rattle.irt_block.specs.declared.extent.Extent.{Extent}
-use Rattle.std.specs.Prelude.{IfOk}
 use Rattle.byte_laws.specs.Spelling.{ReadingIsSpelling}
 use Rattle.irt_block.specs.Header.{whole_of}
 use Rattle.irt_block.specs.Reading.{◌>>=◌, IsSure, spelled, within}

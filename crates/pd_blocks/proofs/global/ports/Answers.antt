@@ -1,6 +1,6 @@
-use Rattle.std.proofs.Common.{◌≡◌, ◌-◌, ◌+◌, ◌++◌, ◌∷◌, [], ap, ◌∙◌, arith, inr}
+use Rattle.std.proofs.Common.{arith, inr}
 use Rattle.std.proofs.lemmas.Result.{err_from_is_err_and}
-use Rattle.irt_block.proofs.Loops.{with_front, goes_on, ends, is_done}
+use Rattle.irt_block.proofs.Loops.{goes_on, ends, is_done}
 use Rattle.pd_blocks.specs.Global.{port_at}
 use Rattle.pd_blocks.proofs.global.ports.Goals as goal
 
