@@ -1,17 +1,15 @@
 -- PDIRData and the device file are codecs.
-use Rattle.std.proofs.Common.{◌≡◌, ℕ, ◌+◌, ◌^◌, ◌≤◌, ◌<◌, List, ◌++◌, length, lit<, Result, Ok, Err, refl, ap, ◌∙◌, append_assoc, arith}
-use Rattle.std.specs.Prelude.{replicate, IfOk}
-use Rattle.std.proofs.lemmas.List.{length-append}
+use Rattle.std.proofs.Common.{◌≡◌, ℕ, ◌+◌, ◌^◌, ◌≤◌, ◌<◌, List, ◌++◌, length, lit<, Ok, refl, append_assoc, arith}
+use Rattle.std.specs.Prelude.{replicate}
 use Rattle.irt_base.specs.declared.blocks.SyncBlock.{SyncBlock}
 use Rattle.irt_base.specs.declared.blocks.GlobalBlock.{GlobalBlock}
 use Rattle.irt_base.specs.declared.blocks.FrameBlock.{FrameBlock}
 use Rattle.irt_base.specs.declared.blocks.PeriodBlock.{PeriodBlock}
 use Rattle.irt_base.specs.declared.blocks.Bundle.{Bundle}
 use Rattle.irt_base.specs.Valid.{IsGlobalBlock, IsFrameBlock, IsPeriodBlock, IsBundle}
-use Rattle.irt_block.specs.declared.fault.BlockFault.{BlockFault}
 use Rattle.irt_block.specs.declared.extent.Extent.{Extent}
 use Rattle.irt_block.specs.declared.header.BlockId.{BlockId}
-use Rattle.irt_block.specs.Reading.{◌>>=◌, Gives, spelled}
+use Rattle.irt_block.specs.Reading.{◌>>=◌, spelled}
 use Rattle.byte_laws.specs.Spelling.{ReadingIsSpelling}
 use Rattle.irt_block.specs.Header.{header_bytes, block_bytes, whole_of}
 use Rattle.irt_block.proofs.Rules.{given, both, spelled_size, zeros_size}

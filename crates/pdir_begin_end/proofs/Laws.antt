@@ -1,8 +1,7 @@
 -- The periods of a device are a codec.
-use Rattle.std.proofs.Common.{◌≡◌, ℕ, ◌^◌, ◌≤◌, ◌<◌, List, ◌++◌, length, lit<, Result, Ok, Err, refl, sym, ap, subst, ◌∙◌, append_assoc, arith}
-use Rattle.std.specs.Prelude.{replicate, IfOk}
+use Rattle.std.proofs.Common.{◌≡◌, ℕ, ◌^◌, ◌≤◌, ◌<◌, List, ◌++◌, length, lit<, Ok, refl, sym, ap, subst, append_assoc, arith}
+use Rattle.std.specs.Prelude.{replicate}
 use Rattle.std.specs.List.{AllByRecursion, flat_map}
-use Rattle.std.proofs.lemmas.List.{length-append}
 use Rattle.irt_base.specs.declared.limits.TheConstants.{MIN_FRAME, MAX_RED_FRAME, MAX_PORTS, MAX_ASSIGNMENTS, PHASES}
 use Rattle.irt_base.specs.declared.blocks.Period.{Period}
 use Rattle.irt_base.specs.declared.blocks.Assignment.{Assignment}
@@ -10,9 +9,8 @@ use Rattle.irt_base.specs.declared.blocks.PhasePair.{PhasePair}
 use Rattle.irt_base.specs.declared.blocks.PortPeriods.{PortPeriods}
 use Rattle.irt_base.specs.declared.blocks.PeriodBlock.{PeriodBlock}
 use Rattle.irt_base.specs.Valid.{IsWithin, IsPeriod, IsAssignment, IsPhasePair, IsPortPeriods, IsPeriodBlock}
-use Rattle.irt_block.specs.declared.fault.BlockFault.{BlockFault}
 use Rattle.irt_block.specs.declared.extent.Extent.{Extent}
-use Rattle.irt_block.specs.Reading.{◌>>=◌, Gives, spelled, within}
+use Rattle.irt_block.specs.Reading.{◌>>=◌, spelled, within}
 use Rattle.byte_laws.specs.Spelling.{ReadingIsSpelling}
 use Rattle.irt_block.specs.Header.{whole_of}
 use Rattle.irt_block.proofs.Rules.{within_rule, within_again, below_rule, below_again, all_so, length-items, length-items-most, given, both, spelled_size, zeros_size}

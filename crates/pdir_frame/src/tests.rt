@@ -1,6 +1,5 @@
 use super::*;
-use irt_base::blocks::{Entry, FrameBlock};
-use irt_base::list::Items;
+use irt_base::blocks::Entry;
 use irt_base::numbers::FrameId;
 use irt_block::{BlockFault, BlockKind};
 use std::alloc::Global;
@@ -42,18 +41,10 @@ fn one_entry_there_and_back(rt: HostRuntime) -> Result<(), Fail> {
     };
     assert!(rt; !block.relative);
     assert!(rt; block.entries.as_slice() == [entry].as_slice());
-    let mut entries = Items::new(rt.alloc());
-    entries.push(entry)?;
-    let value = FrameBlock {
-        relative: false,
-        entries,
-    };
-    let written = write_frames(rt.alloc(), &value)?;
+    let written = write_frames(rt.alloc(), &block)?;
     assert_eq!(rt; written.as_slice(), ONE.as_slice());
-    let none = FrameBlock {
-        relative: true,
-        entries: Items::new(rt.alloc()),
-    };
+    let none = read_frames(rt.alloc(), &NONE)?;
+    assert!(rt; none.relative && none.entries.len() == 0);
     let written = write_frames(rt.alloc(), &none)?;
     assert_eq!(rt; written.as_slice(), NONE.as_slice());
     Ok(())

@@ -1,6 +1,6 @@
-use Rattle.std.proofs.Common.{◌≡◌, ◌-◌, ◌+◌, ◌++◌, ◌∷◌, [], ap, ◌∙◌, arith}
+use Rattle.std.proofs.Common.{arith}
 use Rattle.std.proofs.lemmas.Result.{err_from_is_err_and}
-use Rattle.irt_block.proofs.Loops.{with_front, goes_on, ends, is_done}
+use Rattle.irt_block.proofs.Loops.{goes_on, ends, is_done}
 use Rattle.pdir_begin_end.specs.Periods.{port_at}
 use Rattle.pdir_begin_end.proofs.reading.ports.Goals as goal
 
