@@ -1,6 +1,6 @@
 -- Bytes that no fault is found in are a frame with the fields at their places, and a frame's bytes have its
 -- fields at their places.
-use Rattle.std.proofs.Common.{◌≡◌, ◌<◌, ◌≤◌, ℕ, ◌+◌, ◌-◌, ◌/◌, ◌%◌, ◌^◌, true, List, [], ◌∷◌, ◌++◌, length, take, drop, slice_index, get_or, None, Ok, refl, sym, ◌∙◌, ap, arith, length-append, length-drop, ◌==◌, lit<}
+use Rattle.std.proofs.Common.{◌≡◌, ◌<◌, ◌≤◌, ℕ, ◌+◌, ◌-◌, ◌^◌, true, List, [], ◌∷◌, ◌++◌, length, take, drop, slice_index, get_or, None, Ok, refl, sym, ◌∙◌, ap, arith, length-append, length-drop, ◌==◌, lit<}
 use Rattle.std.proofs.lemmas.List.{take_at, drop_at, take-append-drop, drop-drop, get_or-drop, length-take-le}
 use Rattle.std.proofs.lemmas.Bool.Decides.{nat_tests}
 use Rattle.byteorder.specs.Endian.{big_bytes, big_number}
