@@ -10,6 +10,3 @@ mod scan;
 pub use scan::{
     header_break, orange_break, order_break, range_break, red_frame_break, red_limit_break,
 };
-
-#[cfg(test)]
-mod tests;

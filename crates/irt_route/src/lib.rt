@@ -8,8 +8,6 @@ pub mod network;
 pub mod next_hops;
 pub mod routing;
 pub mod tables;
-#[cfg(test)]
-mod tests;
 pub mod trees;
 pub mod unreached;
 pub mod walks;

@@ -14,7 +14,5 @@ mod net;
 pub mod ports;
 mod rules;
 pub mod search;
-#[cfg(test)]
-mod tests;
 pub mod trees;
 pub mod windows;

@@ -8,5 +8,3 @@ mod clocks;
 mod later;
 mod order;
 pub mod rules;
-#[cfg(test)]
-mod tests;

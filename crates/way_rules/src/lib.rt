@@ -10,9 +10,5 @@ pub mod ends;
 mod entry_rule;
 pub mod offsets;
 pub mod red;
-#[cfg(test)]
-mod sample;
 mod scan;
 mod starts;
-#[cfg(test)]
-mod tests;
