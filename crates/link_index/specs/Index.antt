@@ -1,7 +1,7 @@
 -- The links of a plant, as rows by device and port.
 use Rattle.std.specs.Prelude.{◌≡◌, ℕ, ◌<◌, ◌≤◌, ◌*◌, List, [], length, Option, Some, None, option_map, slice_index_or}
 use Rattle.std.specs.Option.{ForSome}
-use Rattle.irt_base.specs.Wiring.{link_at, far_end, hop_over, peer_of, hop_of}
+use Rattle.irt_base.specs.Wiring.{far_end, hop_over, link_number, peer_of, hop_of}
 use Rattle.irt_base.specs.declared.limits.TheConstants.{MAX_DELAY, MAX_PORTS}
 use Rattle.irt_base.specs.declared.numbers.DevId.{DevId}
 use Rattle.irt_base.specs.declared.numbers.PortNo.{PortNo}
@@ -21,25 +21,28 @@ peer_in rows device port = option_map (λ (w : Wire). (w.device, w.port)) (wire_
 abbrev pub hop_in : List (List (Option Wire)) → ℕ → ℕ → Option ℕ
 hop_in rows device port = option_map (λ (w : Wire). w.hop) (wire_in rows device port)
 
--- the rows give the other end and the hop of each port of the plant, and of no other; links are between
--- the plant's devices
+-- which of the plant's links it is
+abbrev pub number_in : List (List (Option Wire)) → ℕ → ℕ → Option ℕ
+number_in rows device port = option_map (λ (w : Wire). w.number) (wire_in rows device port)
+
+-- the rows give the other end, the hop and the link's number of each port of the plant, and of no other; links are
+-- between the plant's devices
 pub record IsIndexOf (plant : Plant) (rows : List (List (Option Wire))) : Type 0 where
   pub peers : (device port : ℕ) → peer_in rows device port ≡ peer_of plant device port
   pub hops : (device port : ℕ) → hop_in rows device port ≡ hop_of plant device port
+  pub numbers : (device port : ℕ) → number_in rows device port ≡ link_number plant device port
   pub within : (device port : ℕ) (far : DevId × PortNo) → peer_of plant device port ≡ Some far
       → (device < length plant.devices) × (port ≤ MAX_PORTS) × (far.0.0 < length plant.devices)
 
--- what a row has to hold
-abbrev pub wire_over : Plant → ℕ → ℕ → Link → Wire
-wire_over plant device port link =
+-- a port's end of a link of this number
+abbrev pub wire_over : Plant → ℕ → ℕ → ℕ → Link → Wire
+wire_over plant device port number link =
     record {
       device = (far_end device port link).0;
       port = (far_end device port link).1;
       hop = hop_over plant device port link;
+      number = number;
     }
-
-abbrev pub wire_of : Plant → ℕ → ℕ → Option Wire
-wire_of plant device port = option_map (wire_over plant device port) (link_at plant device port)
 
 -- each hop is at most three delays: a Tx delay, a link's and an Rx delay
 abbrev pub HasSmallHop : Option Wire → Type 0

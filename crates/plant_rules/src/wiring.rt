@@ -47,7 +47,8 @@ fn touches(device: DevId, port: PortNo, link: Link) -> bool
     begins_at(device, port, link) || ends_at(device, port, link)
 }
 
-fn far_end(device: DevId, port: PortNo, link: Link) -> (DevId, PortNo)
+/// The device and port at the end of a link other than this one.
+pub fn far_end(device: DevId, port: PortNo, link: Link) -> (DevId, PortNo)
     ensures { result ≡ far_end device.0 port.0 link }
 {
     if begins_at(device, port, link) {
@@ -71,7 +72,8 @@ pub fn hop_delay(plant: &Plant, device: DevId, port: PortNo) -> u32
     }
 }
 
-fn hop_over(plant: &Plant, device: DevId, port: PortNo, link: Link) -> u32
+/// How long a frame takes from a port over its link, in ns.
+pub fn hop_over(plant: &Plant, device: DevId, port: PortNo, link: Link) -> u32
     requires rules { MeetsRules plant.now }
     requires delay { link.delay ≤ MAX_DELAY }
     ensures value { result ≡ hop_over plant.now device.0 port.0 link }
