@@ -19,12 +19,12 @@ use Rattle.irt_base.specs.declared.plants.Plant.{Plant}
 use Rattle.plan_rules.specs.Way.{entry_at}
 use Rattle.plan_rules.specs.Headers.{RepeatsPlant, SharesRange, IsHeader}
 use Rattle.plan_rules.specs.Periods.{IsRedFrame}
-use Rattle.plan_rules.specs.Places.{IsLess}
+use Rattle.plan_rules.specs.Places.{IsLess, IsLeastOf, IsOf, place_of}
 use Rattle.plan_rules.specs.Plan.{setup_of, IsPlan}
 use Rattle.plan_rules.specs.declared.place.Place.{Place}
 use Rattle.block_rules.specs.FrameScan.{IsFirstOut}
 use Rattle.block_rules.specs.PortScan.{IsFirstPort}
-use Rattle.block_rules.specs.Scanning.{Holds, KeepsPort, IsLeastOf, place_of}
+use Rattle.block_rules.specs.Scanning.{Holds, KeepsPort}
 use Rattle.block_rules.specs.declared.rules.BlockRule.{BlockRule}
 use Rattle.block_rules.specs.declared.rules.BlockRule.TheVariants.{Device as OfDevice, RedFrame, Periods}
 use Rattle.block_rules.specs.declared.rules.DeviceRule.{DeviceRule}
@@ -79,9 +79,9 @@ before_port before device port is less = grind arith
 
 pub port_breaks : (rule : PeriodRule) (plant : Plant) (bundles : List Bundle) (own : Bundle) (device port : ℕ)
     → slice_get bundles device ≡ Some own → IsFirstPort (KeepsPort rule plant own.periods) (length own.periods.ports) port
-    → IsLeastOf device (Holds (Periods rule) plant bundles) (place_of device port 0)
+    → IsLeastOf (IsOf device) (Holds (Periods rule) plant bundles) (place_of device port 0)
 port_breaks rule plant bundles own device port is found = record {
-  here = refl;
+  within = refl;
   breaks = λ h. found.fails (λ phase tx rx among sends receives.
       h phase tx rx (record { bundle = own; held = is; from_one = found.there.0; among = among; sends = sends; receives = receives }));
   least = λ before here less phase tx rx has.
@@ -168,11 +168,11 @@ module _ (plant : Plant) (bundles : List Bundle) (own : Bundle) (device : ℕ) (
 
   pub frame_breaks : (entries : List Entry) (frame : ℕ) → entries ≡ own.frames.entries → IsStrictlyIncreasing (frames_of own.frames.entries)
       → IsFirstOut own.periods.first own.periods.last entries frame
-      → IsLeastOf device (IsRedFrame plant bundles) (place_of device 0 frame)
+      → IsLeastOf (IsOf device) (IsRedFrame plant bundles) (place_of device 0 frame)
   frame_breaks entries frame all rises out =
       let stands : slice_get own.frames.entries out.index ≡ Some out.e = ap (λ (xs : List Entry). slice_get xs out.index) (sym all) ∙ out.stands in
       record {
-        here = refl;
+        within = refl;
         breaks = λ red.
             let found = finds own.frames.entries out.index out.e stands in
             out.out (red found.0 own (entry_of plant bundles own device frame is ∙ ap (entry_in own.frames.entries) (sym out.named) ∙ found.1) is);

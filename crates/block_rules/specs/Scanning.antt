@@ -1,5 +1,5 @@
--- The rules of blocks without windows, and what the scan of one device answers.
-use Rattle.std.specs.Prelude.{◌≡◌, ℕ, ◌+◌, ◌<◌, ◌≤◌, List, Option, Some, None}
+-- The rules of blocks without windows.
+use Rattle.std.specs.Prelude.{◌≡◌, ℕ, ◌+◌, ◌<◌, ◌≤◌, List, Some}
 use Rattle.irt_base.specs.Periods.{period_at}
 use Rattle.irt_base.specs.declared.limits.TheConstants.{PHASES}
 use Rattle.irt_base.specs.declared.blocks.Bundle.{Bundle}
@@ -10,15 +10,11 @@ use Rattle.irt_base.specs.declared.plants.Plant.{Plant}
 use Rattle.plan_rules.specs.declared.place.Place.{Place}
 use Rattle.plan_rules.specs.Headers.{RepeatsPlant, SharesRange}
 use Rattle.plan_rules.specs.Periods.{IsRedFrame, HasPeriods, AreOrdered}
-use Rattle.plan_rules.specs.Places.{IsLess}
 use Rattle.block_rules.specs.declared.rules.BlockRule.{BlockRule}
 use Rattle.block_rules.specs.declared.rules.BlockRule.TheVariants.{Device, RedFrame, Periods}
 use Rattle.block_rules.specs.declared.rules.DeviceRule.TheVariants.{Header, Range}
 use Rattle.block_rules.specs.declared.rules.PeriodRule.{PeriodRule}
 use Rattle.block_rules.specs.declared.rules.PeriodRule.TheVariants.{RedLimit, Orange, Order}
-
-abbrev pub place_of : ℕ → ℕ → ℕ → Place
-place_of device port frame = record { device = record { 0 = device }; port = port; frame = frame; other = 0 }
 
 -- a rule of one port's periods in one phase
 abbrev pub KeepsPeriods : PeriodRule → Plant → Period → Period → Type 0
@@ -38,14 +34,3 @@ Holds (Device Range) plant bundles at = SharesRange plant bundles at
 Holds RedFrame plant bundles at = IsRedFrame plant bundles at
 Holds (Periods rule) plant bundles at =
     (phase : ℕ) (tx rx : Period) → HasPeriods bundles at.device.0 at.port phase tx rx → KeepsPeriods rule plant tx rx
-
--- A rule fails at a place of the device, and at none of the device before it.
-pub record IsLeastOf (device : ℕ) (Rule : Place → Type 0) (at : Place) : Type 0 where
-  pub here : at.device.0 ≡ device
-  pub breaks : ¬ Rule at
-  pub least : (before : Place) → before.device.0 ≡ device → IsLess before at → Rule before
-
--- what the scan of one device answers
-abbrev pub IsScanOf : ℕ → (Place → Type 0) → Option Place → Type 0
-IsScanOf device Rule None = (at : Place) → at.device.0 ≡ device → Rule at
-IsScanOf device Rule (Some at) = IsLeastOf device Rule at

@@ -3,8 +3,9 @@
 ghost use Rattle.std.specs.Prelude.{◌≡◌, ◌<◌, ◌↔◌, Some, IsTrue, length, slice_get};
 ghost use Rattle.irt_base.specs.Valid.{IsWithin};
 ghost use Rattle.plan_rules.specs.Headers.{IsHeader, IsOneRange, is_relative};
+ghost use Rattle.plan_rules.specs.Places.{IsOf, IsScanOf, place_of};
 ghost use Rattle.plan_rules.specs.Plan.{IsPlan};
-ghost use Rattle.block_rules.specs.Scanning.{Holds, IsScanOf, place_of};
+ghost use Rattle.block_rules.specs.Scanning.{Holds};
 ghost use Rattle.block_rules.specs.Repeating.{RepeatsSync, RepeatsGlobal};
 ghost use Rattle.block_rules.specs.declared.rules.BlockRule.TheVariants as blocks;
 
@@ -24,25 +25,12 @@ pub fn device_break(
 ) -> Option<Place>
     requires plan { IsPlan plant.now bundles.now }
     requires there { device < length bundles.now }
-    ensures { IsScanOf device (Holds (blocks.Device rule) plant.now bundles.now) result }
+    ensures { IsScanOf (IsOf device) (Holds (blocks.Device rule) plant.now bundles.now) result }
 {
     if holds(rule, plant, bundles, device) {
         None
     } else {
-        Some(place(device, 0, 0))
-    }
-}
-
-/// A place of a device.
-pub fn place(device: usize, port: u8, frame: u16) -> Place
-    requires { device < 256 }
-    ensures { result ≡ place_of device port frame }
-{
-    Place {
-        device: DevId(device as u8),
-        port,
-        frame,
-        other: 0,
+        Some(Place::new(DevId(device as u8), 0, 0))
     }
 }
 

@@ -2,13 +2,14 @@
 
 ghost use Rattle.std.specs.Prelude.{◌≡◌, ◌<◌, ◌↔◌, length, IsTrue};
 ghost use Rattle.irt_base.specs.Valid.{IsWithin};
+ghost use Rattle.plan_rules.specs.Places.{IsOf, IsScanOf};
 ghost use Rattle.plan_rules.specs.Plan.{IsPlan};
 ghost use Rattle.plan_rules.specs.Periods.{IsRedFrame};
-ghost use Rattle.block_rules.specs.Scanning.{IsScanOf};
 ghost use Rattle.block_rules.specs.FrameScan.{IsFrameScan};
 
-use crate::device::{bundle_at, place};
+use crate::device::bundle_at;
 use irt_base::blocks::{Bundle, Entry, PeriodBlock};
+use irt_base::numbers::DevId;
 use irt_base::plants::Plant;
 use plan_rules::place::Place;
 
@@ -16,12 +17,12 @@ use plan_rules::place::Place;
 pub fn frame_break(plant: &Plant, bundles: &[Bundle], device: usize) -> Option<Place>
     requires plan { IsPlan plant.now bundles.now }
     requires there { device < length bundles.now }
-    ensures { IsScanOf device (IsRedFrame plant.now bundles.now) result }
+    ensures { IsScanOf (IsOf device) (IsRedFrame plant.now bundles.now) result }
 {
     let own = bundle_at(bundles, device);
     match first_out(own.frames.entries.as_slice(), &own.periods) {
         None => None,
-        Some(frame) => Some(place(device, 0, frame)),
+        Some(frame) => Some(Place::new(DevId(device as u8), 0, frame)),
     }
 }
 

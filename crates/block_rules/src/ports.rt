@@ -4,17 +4,18 @@ ghost use Rattle.std.specs.Prelude.{◌≡◌, ◌<◌, ◌≤◌, ◌↔◌, le
 ghost use Rattle.irt_base.specs.Valid.{IsPeriodBlock};
 ghost use Rattle.plant_rules.specs.Meets.{MeetsRules};
 ghost use Rattle.plan_rules.specs.Periods.{IsOrdered, AreOrdered};
+ghost use Rattle.plan_rules.specs.Places.{IsOf, IsScanOf};
 ghost use Rattle.plan_rules.specs.Plan.{IsPlan};
-ghost use Rattle.block_rules.specs.Scanning.{Holds, IsScanOf, KeepsPeriods, KeepsPort};
+ghost use Rattle.block_rules.specs.Scanning.{Holds, KeepsPeriods, KeepsPort};
 ghost use Rattle.block_rules.specs.PortScan.{IsPortScan};
 ghost use Rattle.block_rules.specs.declared.rules.BlockRule.TheVariants as blocks;
 
-use crate::device::{bundle_at, place};
+use crate::device::bundle_at;
 use crate::rules::PeriodRule;
 use irt_base::blocks::{Bundle, Period, PeriodBlock, Side};
 use irt_base::cycles::{cycle_length, guard, period};
 use irt_base::limits::PHASES;
-use irt_base::numbers::PortNo;
+use irt_base::numbers::{DevId, PortNo};
 use irt_base::plants::Plant;
 use plan_rules::place::Place;
 
@@ -27,12 +28,12 @@ pub fn port_break(
 ) -> Option<Place>
     requires plan { IsPlan plant.now bundles.now }
     requires there { device < length bundles.now }
-    ensures { IsScanOf device (Holds (blocks.Periods rule) plant.now bundles.now) result }
+    ensures { IsScanOf (IsOf device) (Holds (blocks.Periods rule) plant.now bundles.now) result }
 {
     let own = bundle_at(bundles, device);
     match first_port(rule, plant, &own.periods) {
         None => None,
-        Some(port) => Some(place(device, port, 0)),
+        Some(port) => Some(Place::new(DevId(device as u8), port, 0)),
     }
 }
 

@@ -2,10 +2,10 @@
 
 ghost use Rattle.std.specs.Prelude.{◌≡◌, ◌<◌, length};
 ghost use Rattle.plan_rules.specs.Plan.{IsPlan};
-ghost use Rattle.plan_rules.specs.Places.{IsScan};
+ghost use Rattle.plan_rules.specs.Places.{IsOf, IsScan, IsScanOf};
 ghost use Rattle.plan_rules.specs.Headers.{RepeatsPlant, SharesRange};
 ghost use Rattle.plan_rules.specs.Periods.{KeepsRedLimit, IsRedFrame, HasOrange, KeepsOrder};
-ghost use Rattle.block_rules.specs.Scanning.{Holds, IsScanOf};
+ghost use Rattle.block_rules.specs.Scanning.{Holds};
 
 use crate::device::device_break;
 use crate::frames::frame_break;
@@ -78,7 +78,7 @@ fn first_break(rule: BlockRule, plant: &Plant, bundles: &[Bundle]) -> Option<Pla
 fn break_of(rule: BlockRule, plant: &Plant, bundles: &[Bundle], device: usize) -> Option<Place>
     requires plan { IsPlan plant.now bundles.now }
     requires there { device < length bundles.now }
-    ensures { IsScanOf device (Holds rule plant.now bundles.now) result }
+    ensures { IsScanOf (IsOf device) (Holds rule plant.now bundles.now) result }
 {
     match rule {
         BlockRule::Device(rule) => device_break(rule, plant, bundles, device),
