@@ -2,7 +2,7 @@
 
 ghost use Rattle.std.specs.Prelude.{◌≡◌, ◌≤◌, ◌<◌, slice_index, IfOk, IfErr};
 ghost use Rattle.plant_rules.specs.Meets.{MeetsRules};
-ghost use Rattle.link_index.specs.Index.{peer_in};
+ghost use Rattle.link_index.specs.Index.{peer_in, IsIndexOf};
 ghost use Rattle.irt_route.specs.Clocks.{IsClockTreeOf, IsClockFault, IsGrownTree, IsGrownFault, clock_parent, hops_in, clock_budget};
 ghost use Rattle.irt_route.specs.NextHops.{IsWired};
 
@@ -63,7 +63,21 @@ pub fn clock_tree(alloc: Global, plant: &Plant) -> Result<ClockTree, ClockFault>
     ensures fault { IfErr result (IsClockFault plant.now) }
 {
     let index = LinkIndex::new(alloc, plant)?;
-    grown_tree(alloc, &index, plant.devices.len() as u8)
+    clock_tree_by(alloc, &index, plant)
+}
+
+/// The same, by the index of the plant's links.
+pub fn clock_tree_by(
+    alloc: Global,
+    index: &LinkIndex,
+    plant: &Plant,
+) -> Result<ClockTree, ClockFault>
+    requires rules { MeetsRules plant.now }
+    requires index { IsIndexOf plant.now index.now }
+    ensures tree { IfOk result (λ tree. IsClockTreeOf plant.now tree) }
+    ensures fault { IfErr result (IsClockFault plant.now) }
+{
+    grown_tree(alloc, index, plant.devices.len() as u8)
 }
 
 fn grown_tree(alloc: Global, index: &LinkIndex, devices: u8) -> Result<ClockTree, ClockFault>

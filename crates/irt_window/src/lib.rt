@@ -10,7 +10,7 @@ mod links;
 mod lookups;
 mod marking;
 mod marks;
-mod net;
+pub mod net;
 pub mod ports;
 mod rules;
 pub mod search;

@@ -1,16 +1,21 @@
-//! What the crate looks things up in.
+//! A plan with the tables in which its rules look things up.
 
 ghost use Rattle.std.specs.Prelude.{◌≡◌};
 ghost use Rattle.std.specs.Option.{option_copied};
 ghost use Rattle.irt_base.specs.declared.blocks.Entry.{Entry};
+ghost use Rattle.link_index.specs.Index.{IsIndexOf};
+ghost use Rattle.plan_rules.specs.Plan.{IsPlan};
 ghost use Rattle.plan_rules.specs.Tree.{demand_of};
+ghost use Rattle.irt_window.specs.Demands.{AreNumbers};
 ghost use Rattle.irt_window.specs.Plans.{IsNet, IsEntryAt, Stands};
 
 use crate::search::entry_index;
 use irt_base::blocks::{Bundle, Entry};
+use irt_base::list::Items;
 use irt_base::numbers::{DevId, FrameId};
 use irt_base::plants::{Demand, Plant};
 use link_index::index::LinkIndex;
+use plan_rules::ways::ways_are_one;
 
 /// A plan with its links by port and its demands by FrameID.
 #[derive(Clone, Copy)]
@@ -19,7 +24,32 @@ pub struct Net<'a> {
     pub bundles: &'a [Bundle],
     pub links: &'a LinkIndex,
     /// By FrameID: the number of the demand that has it.
-    pub numbers: &'a [Option<u16>],
+    pub numbers: &'a Items<Option<u16>>,
+}
+
+impl<'a> Net<'a> {
+    /// A plan with the index of its plant's links and the numbers of its demands.
+    pub fn new(
+        plant: &'a Plant,
+        bundles: &'a [Bundle],
+        links: &'a LinkIndex,
+        numbers: &'a Items<Option<u16>>,
+    ) -> Net<'a>
+        requires plan { IsPlan plant.now bundles.now }
+        requires links { IsIndexOf plant.now links.now }
+        requires numbers { AreNumbers plant.now numbers.now }
+        ensures net { IsNet result }
+        ensures plant { result.plant.now ≡ plant.now }
+        ensures bundles { result.bundles.now ≡ bundles.now }
+    {
+        ways_are_one();
+        Net {
+            plant,
+            bundles,
+            links,
+            numbers,
+        }
+    }
 }
 
 /// The place of a frame's entry in a device's block. `None` comes exactly where the device has none.
@@ -47,7 +77,7 @@ pub fn demand_at<'a>(net: &Net<'a>, frame: FrameId) -> Option<&'a Demand>
     requires { IsNet net.now }
     ensures { option_copied result ≡ demand_of net.now.plant.now frame.0 }
 {
-    match net.numbers.get(usize::from(frame.0)) {
+    match net.numbers.as_slice().get(usize::from(frame.0)) {
         Some(Some(number)) => net.plant.demands.get(usize::from(*number)),
         _ => None,
     }

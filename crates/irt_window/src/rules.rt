@@ -30,12 +30,7 @@ pub fn first_break(net: &Net<'_>, marks: &Marks) -> Option<Place>
     for device in 0..net.bundles.len() {
         let device = DevId(device as u8);
         if let Some(frame) = device_break(net, marks, device) {
-            return Some(Place {
-                device,
-                port: 0,
-                frame,
-                other: 0,
-            });
+            return Some(Place::new(device, 0, frame));
         }
     }
     None

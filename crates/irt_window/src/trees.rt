@@ -20,27 +20,10 @@ use irt_base::memory::NoMemory;
 use irt_base::plants::Plant;
 use link_index::index::LinkIndex;
 use plan_rules::way::Way;
-use plan_rules::ways::ways_are_one;
 use std::alloc::Global;
 
 /// Decides rule V2 of a plan, and finds the ways of its entries where it holds.
-pub fn trees(alloc: Global, plant: &Plant, bundles: &[Bundle]) -> Result<Trees, NoMemory>
-    requires { IsPlan plant.now bundles.now }
-    ensures { IfOk result (λ answer. IsTreeAnswer plant.now bundles.now answer) }
-{
-    ways_are_one();
-    let links = LinkIndex::new(alloc, plant)?;
-    let numbers = demand_numbers(alloc, plant)?;
-    let net = Net {
-        plant,
-        bundles,
-        links: &links,
-        numbers: numbers.as_slice(),
-    };
-    decide(alloc, &net)
-}
-
-fn decide(alloc: Global, net: &Net<'_>) -> Result<Trees, NoMemory>
+pub fn trees(alloc: Global, net: &Net<'_>) -> Result<Trees, NoMemory>
     requires { IsNet net.now }
     ensures { IfOk result (λ answer. IsTreeAnswer net.now.plant.now net.now.bundles.now answer) }
 {
@@ -58,7 +41,9 @@ pub fn windows(alloc: Global, plant: &Plant, bundles: &[Bundle]) -> Result<Windo
     ensures ok { IfOk result (λ windows. AreTrees (setup_of plant.now bundles.now) × AreWindows plant.now bundles.now windows) }
     ensures err { result ≡ Err NotATree → ¬ AreTrees (setup_of plant.now bundles.now) }
 {
-    match trees(alloc, plant, bundles)? {
+    let links = LinkIndex::new(alloc, plant)?;
+    let numbers = demand_numbers(alloc, plant)?;
+    match trees(alloc, &Net::new(plant, bundles, &links, &numbers))? {
         Trees::Whole(windows) => Ok(windows),
         Trees::Broken(_) => Err(WindowFault::NotATree),
     }

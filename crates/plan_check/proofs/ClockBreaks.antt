@@ -17,10 +17,10 @@ use Rattle.irt_route.specs.declared.fault.ClockFault.{ClockFault}
 use Rattle.irt_route.specs.declared.fault.ClockFault.TheVariants.{NoClock}
 use Rattle.irt_route.proofs.Distances.{ports_of_links}
 use Rattle.plan_rules.specs.Headers.{RepeatsPlant, KeepsClock}
-use Rattle.plan_rules.specs.Places.{IsLess, IsLeastBreak}
+use Rattle.plan_rules.specs.Places.{IsLess, IsLeastBreak, place_of}
 use Rattle.plan_rules.specs.Plan.{IsPlan}
 use Rattle.plan_rules.specs.declared.place.Place.{Place}
-use Rattle.plan_check.specs.Late.{IsLate, device_place}
+use Rattle.plan_check.specs.Late.{IsLate}
 
 some_at : {X : Type 0} (xs : List X) (i : ℕ) → i < length xs → (x : X) × (slice_get xs i ≡ Some x)
 some_at xs i there = elim (slice_get_cases xs i).1 [
@@ -35,7 +35,7 @@ cycles_fit plant bundles device b plan headers is =
     let there : device < length bundles = slice_get_within bundles device b is in
     let own = some_at plant.devices device (omega (arith, plan.count, there)) in
     let first = some_at bundles 0 (omega (arith, there)) in
-    let header = headers (device_place device) own.0 first.0 b own.1 first.1 is in
+    let header = headers (place_of device 0 0) own.0 first.0 b own.1 first.1 is in
     (header.send.1, header.timeout.1)
 
 budget_of : (tree : ClockTable) (sync : SyncPlan) (device send timeout : ℕ) → 1 ≤ device
@@ -48,7 +48,7 @@ same_distance : (plant : Plant) (device m n : ℕ) → IsDistance plant device m
 same_distance plant device m n one two = omega (arith, one.shortest n two.walk, two.shortest m one.walk)
 
 module _ (plant : Plant) (bundles : List Bundle) (tree : ClockTable) (plan : IsPlan plant bundles) (of : IsClockTreeOf plant tree) where
-  late_breaks : (device : ℕ) → plant.clocks ≡ Ptcp → IsLate plant bundles tree device → ¬ KeepsClock plant bundles (device_place device)
+  late_breaks : (device : ℕ) → plant.clocks ≡ Ptcp → IsLate plant bundles tree device → ¬ KeepsClock plant bundles (place_of device 0 0)
   late_breaks device ptcp late keeps = elim (cases_eq device 0) [
     | inl root ↦
         let none : clock_budget tree plant.sync device late.first.sync.send late.own.sync.timeout ≡ 0 = rw root refl in
@@ -74,13 +74,13 @@ module _ (plant : Plant) (bundles : List Bundle) (tree : ClockTable) (plan : IsP
       ]
 
   pub first_late : (device : ℕ) → plant.clocks ≡ Ptcp → ((n : ℕ) → n < device → ¬ IsLate plant bundles tree n) → IsLate plant bundles tree device
-      → IsLeastBreak (KeepsClock plant bundles) (device_place device)
+      → IsLeastBreak (KeepsClock plant bundles) (place_of device 0 0)
   first_late device ptcp before late = record {
     breaks = late_breaks device ptcp late;
     least = λ at less. in_time at (before at.device.0 (lesser at device less));
   }
     where
-      lesser : (at : Place) (device : ℕ) → IsLess at (device_place device) → at.device.0 < device
+      lesser : (at : Place) (device : ℕ) → IsLess at (place_of device 0 0) → at.device.0 < device
       lesser at device less = grind arith
 
   pub none_late : (n : ℕ) → length bundles ≤ n → ((i : ℕ) → i < n → ¬ IsLate plant bundles tree i) → (at : Place) → KeepsClock plant bundles at

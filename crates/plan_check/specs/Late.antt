@@ -3,11 +3,6 @@ use Rattle.std.specs.Prelude.{◌≡◌, ℕ, ◌<◌, List, Some, slice_get}
 use Rattle.irt_base.specs.declared.blocks.Bundle.{Bundle}
 use Rattle.irt_base.specs.declared.plants.Plant.{Plant}
 use Rattle.irt_route.specs.Clocks.{ClockTable, clock_budget}
-use Rattle.plan_rules.specs.declared.place.Place.{Place}
-
--- a device as a place
-abbrev pub device_place : ℕ → Place
-device_place device = record { device = record { 0 = device }; port = 0; frame = 0; other = 0 }
 
 -- by the clock tree, with the first bundle's send and the device's own timeout
 pub record IsLate (plant : Plant) (bundles : List Bundle) (tree : ClockTable) (device : ℕ) : Type 0 where

@@ -1,5 +1,4 @@
 pub mod Late
-pub mod Numbers
-pub mod Order
+pub mod Outcomes
 pub mod Settled
 pub mod Verdicts

@@ -1,28 +1,24 @@
 -- What the check of a plan answers.
-use Rattle.std.specs.Prelude.{◌≡◌, List, ⊤}
+use Rattle.std.specs.Prelude.{◌≡◌, List, Option, Some, None, ⊤}
 use Rattle.irt_base.specs.declared.blocks.Bundle.{Bundle}
 use Rattle.irt_base.specs.declared.plants.Plant.{Plant}
-use Rattle.plan_rules.specs.Expected.{IsSafe}
 use Rattle.plan_rules.specs.Places.{IsAccepted, IsReject}
+use Rattle.plan_rules.specs.declared.place.Reject.{Reject as Rejected}
 use Rattle.plan_check.specs.Settled.{Settled}
 use Rattle.plan_check.specs.declared.check.Verdict.{Verdict}
 use Rattle.plan_check.specs.declared.check.Verdict.TheVariants.{Accept, Reject}
 
--- These copies are the plan's, and its rules hold everywhere. So it is safe.
-pub record IsAcceptedAs (plant : Plant) (bundles : List Bundle) (a : Settled) : Type 0 where
-  pub same_plant : a.plant ≡ plant
-  pub same_bundles : a.bundles ≡ bundles
-  pub accepted : IsAccepted plant bundles
-  pub safe : IsSafe plant bundles
+-- None where all rules hold everywhere, else the first that fails and its least place.
+abbrev pub IsJudged : Plant → List Bundle → Option Rejected → Type 0
+IsJudged plant bundles None = IsAccepted plant bundles
+IsJudged plant bundles (Some r) = IsReject plant bundles r
 
-abbrev pub IsAcceptance : Plant → List Bundle → Verdict → Type 0
-IsAcceptance plant bundles (Accept a) = IsAcceptedAs plant bundles a
-IsAcceptance plant bundles (Reject r) = ⊤
+-- for what a plan is refused
+abbrev pub reject_of : Verdict → Option Rejected
+reject_of (Accept a) = None
+reject_of (Reject r) = Some r
 
-abbrev pub IsRejection : Plant → List Bundle → Verdict → Type 0
-IsRejection plant bundles (Accept a) = ⊤
-IsRejection plant bundles (Reject r) = IsReject plant bundles r
-
-abbrev pub IsAccept : Verdict → Type 0
-IsAccept (Accept a) = ⊤
-IsAccept (Reject r) = ⊥
+-- what is kept are copies of this plan
+abbrev pub KeepsPlan : Plant → List Bundle → Verdict → Type 0
+KeepsPlan plant bundles (Accept a) = (a.plant ≡ plant) × (a.bundles ≡ bundles)
+KeepsPlan plant bundles (Reject r) = ⊤

@@ -5,6 +5,5 @@
 pub mod accepted;
 pub mod check;
 mod clocks;
-mod later;
 mod order;
-pub mod rules;
+mod scans;

@@ -16,14 +16,13 @@ use Rattle.plan_rules.specs.SendWindow.{SendWindow, HasWindow, slack_time}
 use Rattle.plan_rules.specs.Plan.{setup_of, IsPlan}
 use Rattle.irt_window.specs.declared.ports.TheConstants.{TX_BITS}
 use Rattle.plan_rules.specs.Frames.{KeepsApart, IsSending, IsBefore}
-use Rattle.plan_rules.specs.Places.{IsLess}
+use Rattle.plan_rules.specs.Places.{IsLess, IsAt, IsLeastOf, IsScanOf}
 use Rattle.plan_rules.specs.Ways.{window_of}
 use Rattle.plan_rules.specs.declared.place.Place.{Place}
 use Rattle.plan_rules.specs.declared.way.Way.{Way}
 use Rattle.window_sweep.specs.Clashes.{Clash, IsClash, IsLeastClash, IsFirstClash, IsUpTo}
 use Rattle.window_sweep.specs.declared.slot.SendSlot.{SendSlot}
 use Rattle.way_rules.specs.Placed.{IsWayPlan, IsRow}
-use Rattle.way_rules.specs.Scan.{IsAt, IsLeastOf, IsScanOf}
 use Rattle.way_rules.specs.Slots.{AreSlots, IsSlotOf, AreTimed, slot_of}
 use Rattle.way_rules.proofs.Entries.{stands, placed, row_count, bundle_valid}
 use Rattle.way_rules.proofs.OneWay.{OneWindow, one_window, sending}

@@ -16,8 +16,8 @@ use Rattle.plan_rules.specs.Plan.{IsPlan, setup_of}
 use Rattle.plan_rules.specs.declared.way.Way.{Way}
 use Rattle.irt_base.specs.declared.numbers.DevId.{DevId}
 use Rattle.plan_rules.specs.declared.place.Place.{Place}
-use Rattle.plan_rules.specs.Places.{IsLess}
-use Rattle.way_rules.specs.Scan.{IsAt, AtFrame, IsLeastOf}
+use Rattle.plan_rules.specs.Places.{IsLess, IsAt, IsLeastOf}
+use Rattle.way_rules.specs.Scan.{AtFrame}
 use Rattle.irt_window.specs.Search.{entry_in}
 use Rattle.way_rules.specs.Placed.{IsPlaced, IsWayPlan, IsRow}
 

@@ -1,8 +1,9 @@
 -- Steps of scans, for any rule.
 use Rattle.std.proofs.Common.{◌≡◌, ◌<◌, ◌≤◌, ℕ, None, refl, sym, subst, arith, inl, inr}
 use Rattle.std.proofs.lemmas.Bool.{cases_lt}
+use Rattle.plan_rules.specs.Places.{IsScanOf, IsOf}
 use Rattle.plan_rules.specs.declared.place.Place.{Place}
-use Rattle.way_rules.specs.Scan.{IsScanOf, IsOf, AtFrame}
+use Rattle.way_rules.specs.Scan.{AtFrame}
 
 -- the rule holds at the devices before this one
 abbrev pub HoldsBefore : (Place → Type 0) → ℕ → Type 0

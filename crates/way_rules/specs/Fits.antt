@@ -10,12 +10,7 @@ use Rattle.irt_base.specs.declared.blocks.Side.{Side}
 use Rattle.irt_base.specs.declared.plants.Device.{Device}
 use Rattle.irt_base.specs.declared.plants.Plant.{Plant}
 use Rattle.plan_rules.specs.Way.{Leaves, IsAbsolute}
-use Rattle.plan_rules.specs.declared.place.Place.{Place}
 use Rattle.plan_rules.specs.declared.way.Way.{Way}
-
--- the place of a rule that names a device, a port and a frame, or fewer
-abbrev pub frame_place : ℕ → ℕ → ℕ → Place
-frame_place device port frame = record { device = record { 0 = device }; port = port; frame = frame; other = 0 }
 
 -- the frame leaves by some port
 abbrev pub LeavesSome : Entry → Type 0

@@ -2,9 +2,8 @@
 
 ghost use Rattle.std.specs.Prelude.{◌≡◌, ◌<◌, length, IfOk};
 ghost use Rattle.plan_rules.specs.Frames.{KeepsApart};
-ghost use Rattle.plan_rules.specs.Places.{IsScan};
+ghost use Rattle.plan_rules.specs.Places.{IsScan, IsScanOf, IsOf, IsAt};
 ghost use Rattle.way_rules.specs.Placed.{IsWayPlan};
-ghost use Rattle.way_rules.specs.Scan.{IsScanOf, IsOf, IsAt};
 ghost use Rattle.way_rules.specs.Slots.{IsTimed, AreTimed, AreSlots, slot_of};
 
 use crate::scan::row_of;

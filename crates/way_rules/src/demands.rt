@@ -11,9 +11,8 @@ ghost use Rattle.plan_rules.specs.Tree.{demand_of};
 ghost use Rattle.plan_rules.specs.Way.{entry_at};
 ghost use Rattle.irt_window.specs.Demands.{AreNumbers};
 ghost use Rattle.plan_rules.specs.Frames.{AgreesWithDemand, IsAsDemanded};
-ghost use Rattle.plan_rules.specs.Places.{IsScan};
+ghost use Rattle.plan_rules.specs.Places.{IsScan, place_of};
 ghost use Rattle.plan_rules.specs.Plan.{IsPlan, setup_of};
-ghost use Rattle.way_rules.specs.Fits.{frame_place};
 ghost use Rattle.way_rules.specs.Placed.{IsWayPlan};
 
 use crate::entry_rule::EntryRule;
@@ -48,7 +47,7 @@ impl EntryRule for Items<Option<u16>> {
 
     const PORTS: u8 = 1;
 
-    ghost Holds = { λ plant bundles device port frame. AgreesWithDemand plant bundles (frame_place device port frame) };
+    ghost Holds = { λ plant bundles device port frame. AgreesWithDemand plant bundles (place_of device port frame) };
 
     ghost IsFor = { λ numbers plant. AreNumbers plant numbers };
 

@@ -8,8 +8,7 @@ ghost use Rattle.irt_base.specs.Valid.{IsEntry};
 ghost use Rattle.link_index.specs.Index.{IsIndexOf};
 ghost use Rattle.plan_rules.specs.Frames.{EndsInCycle};
 ghost use Rattle.irt_window.specs.declared.ports.TheConstants.{TX_BITS};
-ghost use Rattle.plan_rules.specs.Places.{IsScan};
-ghost use Rattle.way_rules.specs.Fits.{frame_place};
+ghost use Rattle.plan_rules.specs.Places.{IsScan, place_of};
 ghost use Rattle.way_rules.specs.Placed.{IsWayPlan};
 
 use crate::entry_rule::EntryRule;
@@ -47,7 +46,7 @@ impl EntryRule for LinkIndex {
 
     const PORTS: u8 = TX_BITS;
 
-    ghost Holds = { λ plant bundles device port frame. EndsInCycle plant bundles (frame_place device port frame) };
+    ghost Holds = { λ plant bundles device port frame. EndsInCycle plant bundles (place_of device port frame) };
 
     ghost IsFor = { λ links plant. IsIndexOf plant links };
 

@@ -3,8 +3,8 @@
 ghost use Rattle.std.specs.Prelude.{◌<◌, ◌≤◌, ◌^◌, ◌↔◌, IsTrue, length};
 ghost use Rattle.irt_base.specs.Valid.{IsEntry};
 ghost use Rattle.plan_rules.specs.Frames.{HasNoIdleOffset, ForwardsLateEnough};
-ghost use Rattle.plan_rules.specs.Places.{IsScan};
-ghost use Rattle.way_rules.specs.Fits.{StartsLate, frame_place};
+ghost use Rattle.plan_rules.specs.Places.{IsScan, place_of};
+ghost use Rattle.way_rules.specs.Fits.{StartsLate};
 ghost use Rattle.way_rules.specs.Placed.{IsWayPlan};
 ghost use Rattle.std.proofs.Common.{sym, ◌∙◌, arith};
 ghost use Rattle.std.proofs.lemmas.Option.{none-some};
@@ -48,7 +48,7 @@ impl EntryRule for IdleOffset {
 
     const PORTS: u8 = 1;
 
-    ghost Holds = { λ plant bundles device port frame. HasNoIdleOffset plant bundles (frame_place device port frame) };
+    ghost Holds = { λ plant bundles device port frame. HasNoIdleOffset plant bundles (place_of device port frame) };
 
     ghost IsFor = { λ _ _. Unit {0} };
 
@@ -79,7 +79,7 @@ impl EntryRule for LateOffset {
 
     const PORTS: u8 = 1;
 
-    ghost Holds = { λ plant bundles device port frame. ForwardsLateEnough plant bundles (frame_place device port frame) };
+    ghost Holds = { λ plant bundles device port frame. ForwardsLateEnough plant bundles (place_of device port frame) };
 
     ghost IsFor = { λ _ _. Unit {0} };
 

@@ -8,8 +8,8 @@ ghost use Rattle.irt_base.specs.Valid.{IsEntry, IsPeriodBlock};
 ghost use Rattle.plan_rules.specs.SendWindow.{slack_time};
 ghost use Rattle.plan_rules.specs.Frames.{IsSentInRed, IsReceivedInRed};
 ghost use Rattle.irt_window.specs.declared.ports.TheConstants.{TX_BITS};
-ghost use Rattle.plan_rules.specs.Places.{IsScan};
-ghost use Rattle.way_rules.specs.Fits.{FitsRed, FitsPhase, frame_place};
+ghost use Rattle.plan_rules.specs.Places.{IsScan, place_of};
+ghost use Rattle.way_rules.specs.Fits.{FitsRed, FitsPhase};
 ghost use Rattle.way_rules.specs.Placed.{IsWayPlan};
 
 use crate::entry_rule::EntryRule;
@@ -50,7 +50,7 @@ impl EntryRule for Sent {
 
     const PORTS: u8 = TX_BITS;
 
-    ghost Holds = { λ plant bundles device port frame. IsSentInRed plant bundles (frame_place device port frame) };
+    ghost Holds = { λ plant bundles device port frame. IsSentInRed plant bundles (place_of device port frame) };
 
     ghost IsFor = { λ _ _. Unit {0} };
 
@@ -88,7 +88,7 @@ impl EntryRule for Received {
 
     const PORTS: u8 = TX_BITS;
 
-    ghost Holds = { λ plant bundles device port frame. IsReceivedInRed plant bundles (frame_place device port frame) };
+    ghost Holds = { λ plant bundles device port frame. IsReceivedInRed plant bundles (place_of device port frame) };
 
     ghost IsFor = { λ _ _. Unit {0} };
 

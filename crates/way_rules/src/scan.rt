@@ -1,9 +1,9 @@
 //! The scan of an entry's rule over all places.
 
 ghost use Rattle.std.specs.Prelude.{◌≡◌, ◌<◌, length};
-ghost use Rattle.plan_rules.specs.Places.{IsScan};
+ghost use Rattle.plan_rules.specs.Places.{IsScan, IsScanOf, IsOf, IsAt};
 ghost use Rattle.way_rules.specs.Placed.{IsWayPlan, IsRow};
-ghost use Rattle.way_rules.specs.Scan.{IsScanOf, IsOf, IsAt, AtFrame};
+ghost use Rattle.way_rules.specs.Scan.{AtFrame};
 
 use crate::entry_rule::EntryRule;
 use irt_base::blocks::{Bundle, Entry};
@@ -74,12 +74,7 @@ fn port_break<R: EntryRule>(
     for index in 0..entries.len() {
         let entry = entries[index];
         if !rule.holds(plant, bundles, device, port, entry, own_ways[index]) {
-            return Some(Place {
-                device,
-                port: port.0,
-                frame: entry.frame.0,
-                other: 0,
-            });
+            return Some(Place::new(device, port.0, entry.frame.0));
         }
     }
     None
