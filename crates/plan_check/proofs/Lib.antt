@@ -1,3 +1,2 @@
-pub mod Answering
 pub mod ClockBreaks
-pub mod Composing
+pub mod Judging
