@@ -8,7 +8,7 @@ ghost use Rattle.plan_rules.specs.Plan.{IsPlan};
 ghost use Rattle.plan_rules.specs.declared.place.Reject.{Reject as Rejected};
 
 use crate::accepted::Accepted;
-use crate::order::{Outcome, outcome};
+use crate::order::{Outcome, try_rules};
 use irt_base::blocks::Bundle;
 use irt_base::memory::NoMemory;
 use irt_base::plants::Plant;
@@ -42,10 +42,7 @@ pub fn judge_plan(
 {
     accepted_plans_are_safe();
     verdicts_are_one();
-    match outcome(alloc, plant, bundles)? {
-        Outcome::Holds(_) => Ok(None),
-        Outcome::Fails(reject) => Ok(Some(reject)),
-    }
+    first_failure(alloc, plant, bundles)
 }
 
 /// Decides the same, and where a plan is accepted keeps copies of it, with the windows of its frames. Any call may
@@ -60,7 +57,30 @@ pub fn check(alloc: Global, plant: &Plant, bundles: &[Bundle]) -> Result<Verdict
 {
     accepted_plans_are_safe();
     verdicts_are_one();
-    match outcome(alloc, plant, bundles)? {
+    kept_verdict(alloc, plant, bundles)
+}
+
+/// The first rule that fails, with its least place.
+fn first_failure(
+    alloc: Global,
+    plant: &Plant,
+    bundles: &[Bundle],
+) -> Result<Option<Reject>, NoMemory>
+    requires { IsPlan plant.now bundles.now }
+    ensures { IfOk result (IsJudged plant.now bundles.now) }
+{
+    match try_rules(alloc, plant, bundles)? {
+        Outcome::Holds(_) => Ok(None),
+        Outcome::Fails(reject) => Ok(Some(reject)),
+    }
+}
+
+fn kept_verdict(alloc: Global, plant: &Plant, bundles: &[Bundle]) -> Result<Verdict, NoMemory>
+    requires { IsPlan plant.now bundles.now }
+    ensures judged { IfOk result (λ v. IsJudged plant.now bundles.now (reject_of v)) }
+    ensures kept { IfOk result (KeepsPlan plant.now bundles.now) }
+{
+    match try_rules(alloc, plant, bundles)? {
         Outcome::Fails(reject) => Ok(Verdict::Reject(reject)),
         Outcome::Holds(windows) => {
             let accepted = Accepted::new(alloc, plant, bundles, windows)?;

@@ -34,7 +34,7 @@ pub enum Outcome {
 }
 
 /// Tries the rules V1..V15 in this order.
-pub fn outcome(alloc: Global, plant: &Plant, bundles: &[Bundle]) -> Result<Outcome, NoMemory>
+pub fn try_rules(alloc: Global, plant: &Plant, bundles: &[Bundle]) -> Result<Outcome, NoMemory>
     requires { IsPlan plant.now bundles.now }
     ensures { IfOk result (IsOutcome plant.now bundles.now) }
 {
@@ -44,11 +44,11 @@ pub fn outcome(alloc: Global, plant: &Plant, bundles: &[Bundle]) -> Result<Outco
     }
     let links = LinkIndex::new(alloc, plant)?;
     let numbers = demand_numbers(alloc, plant)?;
-    outcome_of_frames(alloc, &Net::new(plant, bundles, &links, &numbers))
+    try_frames(alloc, &Net::new(plant, bundles, &links, &numbers))
 }
 
 /// Tries the rules from V2 on.
-fn outcome_of_frames(alloc: Global, net: &Net<'_>) -> Result<Outcome, NoMemory>
+fn try_frames(alloc: Global, net: &Net<'_>) -> Result<Outcome, NoMemory>
     requires net { IsNet net.now }
     requires before { KeepsBelow net.now.plant.now net.now.bundles.now 2 }
     ensures { IfOk result (IsOutcome net.now.plant.now net.now.bundles.now) }
