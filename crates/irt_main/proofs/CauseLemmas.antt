@@ -10,9 +10,8 @@ use Rattle.irt_bundle.specs.Bundles.{bundle_in}
 use Rattle.irt_io.specs.Files.{Files}
 use Rattle.irt_steps.specs.Steps.{Ending, Steps, gives, IsHeld, IsMissing, IsTooLong, Comes, LoadsNext}
 use Rattle.irt_steps.proofs.StepLemmas.{comes_by, read_by, loads_first, loads_later}
-use Rattle.irt_topo.specs.Reading.{plant_of}
-use Rattle.irt_topo.specs.declared.fault.PlantFault.{PlantFault}
-use Rattle.irt_main.specs.Commands.{plant_fault, plant_answer, plant_steps, bundle_answer, bundle_steps, device_file_of, device_steps, bundles_steps}
+use Rattle.irt_topo.specs.Reading.{PlantRefusal, plant_of}
+use Rattle.irt_main.specs.Commands.{plant_refusal, plant_answer, plant_steps, bundle_answer, bundle_steps, device_file_of, device_steps, bundles_steps}
 use Rattle.irt_main.specs.Causes.{IsPlantFile, IsBundleFile, AreBundleFiles, IsMalformed}
 
 -- ---- one file
@@ -24,11 +23,11 @@ StopsAt files name e = (IsMissing files name e ⊎ IsTooLong files name DEVICE_F
 abbrev Read : Type 0 → Type 0
 Read A = Result A Ending
 
-plant_is : (answer : Result Plant PlantFault) (plant : Plant) → (Ok plant) ≡ plant_answer answer → answer ≡ Ok plant
+plant_is : (answer : Result Plant PlantRefusal) (plant : Plant) → (Ok plant) ≡ plant_answer answer → answer ≡ Ok plant
 plant_is (Ok p) plant is = sym cc
 plant_is (Err fault) plant is = absurd cc
 
-plant_not : (answer : Result Plant PlantFault) (e : Ending) → (Err e) ≡ plant_answer answer → (fault : PlantFault) × (answer ≡ Err fault) × (e ≡ plant_fault fault)
+plant_not : (answer : Result Plant PlantRefusal) (e : Ending) → (Err e) ≡ plant_answer answer → (fault : PlantRefusal) × (answer ≡ Err fault) × (e ≡ plant_refusal fault)
 plant_not (Ok p) e is = absurd cc
 plant_not (Err fault) e is = (fault, refl, cc)
 
@@ -44,7 +43,7 @@ plant_file files new name plant comes = elim (read_by name PLANT_FILE (λ bytes.
 -- how a plant's file stops a command
 abbrev pub PlantStops : Files → List ℕ → Ending → Type 0
 PlantStops files name e = (IsMissing files name e ⊎ IsTooLong files name PLANT_FILE e)
-    ⊎ ((bytes : List ℕ) × IsHeld files name PLANT_FILE bytes × (fault : PlantFault) × (plant_of bytes ≡ Err fault) × (e ≡ plant_fault fault))
+    ⊎ ((bytes : List ℕ) × IsHeld files name PLANT_FILE bytes × (fault : PlantRefusal) × (plant_of bytes ≡ Err fault) × (e ≡ plant_refusal fault))
 
 same_err : {A : Type 0} {d e : Ending} (x : Read A) (y : Read A) → x ≡ Err d → y ≡ Err e → x ≡ y → d ≡ e
 same_err x y is so same = cc

@@ -11,12 +11,11 @@ use Rattle.irt_steps.specs.Ended.{ended, Counts, IsOutcome, EndsAs}
 use Rattle.irt_steps.specs.Follow.{Told}
 use Rattle.irt_steps.proofs.EndedLemmas.{stated_of}
 use Rattle.irt_steps.proofs.StepLemmas.{comes_by, loads_first, loads_later}
-use Rattle.irt_topo.specs.declared.fault.PlantFault.{PlantFault}
-use Rattle.irt_topo.specs.declared.fault.PlantFault.TheVariants as faults
+use Rattle.irt_topo.specs.Reading.{PlantRefusal, not_toml, breaks}
 use Rattle.plan_rules.specs.Expected.{IsSafe}
 use Rattle.plan_rules.specs.Plan.{IsPlan}
 use Rattle.plan_rules.specs.Places.{IsAccepted}
-use Rattle.irt_main.specs.Commands.{plant_steps, plant_fault, blocks_steps, bundle_steps, bundles_steps, verdict_steps, check_steps, show_steps, command_steps, check_word, show_word, steps_of}
+use Rattle.irt_main.specs.Commands.{plant_steps, plant_refusal, blocks_steps, bundle_steps, bundles_steps, verdict_steps, check_steps, show_steps, command_steps, check_word, show_word, steps_of}
 use Rattle.irt_main.specs.Causes.{AreBundleFiles, ArePlanFiles, Accepts, Shows, IsAbsent, IsLong, IsPlantFault, IsBundleFault, IsRejected, IsUsage, IsCause, Printed}
 use Rattle.irt_main.specs.Lines.{usage_line, accept_line}
 use Rattle.irt_main.proofs.CauseLemmas.{PlantStops, StopsAt, plant_file, plant_stops, bundle_file, bundle_stops, bundle_next, bundles_ok, bundles_stop}
@@ -46,7 +45,7 @@ plant_stops_at : (files : Files) (words : List (List ℕ)) (name : List ℕ) (e 
 plant_stops_at files words name e is next (inl (inl missing)) = absent (record { name = name; limit = PLANT_FILE; next = next; missing = missing })
 plant_stops_at files words name e is next (inl (inr over)) = long (record { name = name; limit = PLANT_FILE; next = next; long = over })
 plant_stops_at files words name e is next (inr (bytes, held, fault, refused, so)) =
-    plant (record { name = name; command = is; bytes = bytes; held = held; fault = fault; refused = refused; is = so })
+    plant (record { name = name; command = is; bytes = bytes; held = held; refusal = fault; refused = refused; is = so })
 
 -- ---- check
 
@@ -124,10 +123,9 @@ outcome_reason files new words o law is =
 
 -- ---- by status
 
-fault_status : (fault : PlantFault) → ((plant_fault fault).status ≡ 5) ⊎ ((plant_fault fault).status ≡ 13)
-fault_status faults.NotToml = inl refl
-fault_status (faults.Rule number index) = inl refl
-fault_status faults.NoMemory = inr refl
+refusal_status : (refusal : PlantRefusal) → (plant_refusal refusal).status ≡ 5
+refusal_status not_toml = refl
+refusal_status (breaks number index) = refl
 
 abbrev status : Ending → ℕ
 status e = e.status
@@ -138,10 +136,8 @@ cause_of files words e (accepts name is holds so) = subst (IsCause files words e
 cause_of files words e (shows name none is holds so) = subst (IsCause files words e) (sym so) (inr (name, none, is, holds))
 cause_of files words e (absent holds) = subst (IsCause files words e) (ap status (sym holds.missing.1)) holds
 cause_of files words e (long holds) = subst (IsCause files words e) (ap status (sym holds.long.is)) holds
-cause_of files words e (plant holds) = elim (fault_status holds.fault) [
-  | inl so ↦ subst (IsCause files words e) (sym (ap status holds.is ∙ so)) holds
-  | inr so ↦ subst (IsCause files words e) (sym (ap status holds.is ∙ so)) tt
-]
+cause_of files words e (plant holds) =
+    subst (IsCause files words e) (sym (ap status holds.is ∙ refusal_status holds.refusal)) holds
 cause_of files words e (malformed holds) = subst (IsCause files words e) (ap status (sym holds.malformed.is)) holds
 cause_of files words e (rejected holds) = subst (IsCause files words e) (ap status (sym holds.is)) holds
 cause_of files words e (usage holds so) = subst (IsCause files words e) (ap status (sym so)) (holds, so)

@@ -15,13 +15,12 @@ use Rattle.irt_steps.specs.Steps.{Ending, ending, IsHeld, IsMissing, IsTooLong, 
 use Rattle.irt_steps.specs.Follow.{status_of}
 use Rattle.irt_steps.specs.declared.stop.Stop.{Stop}
 use Rattle.irt_steps.specs.declared.stop.Stop.TheVariants as stops
-use Rattle.irt_topo.specs.Reading.{plant_of}
-use Rattle.irt_topo.specs.declared.fault.PlantFault.{PlantFault}
+use Rattle.irt_topo.specs.Reading.{PlantRefusal, plant_of}
 use Rattle.plan_rules.specs.Expected.{IsSafe}
 use Rattle.plan_rules.specs.Plan.{IsPlan}
 use Rattle.plan_rules.specs.Places.{IsAccepted, IsReject}
 use Rattle.plan_rules.specs.declared.place.Reject.{Reject}
-use Rattle.irt_main.specs.Commands.{plant_fault, device_file_of, name_of, check_word, show_word, steps_of}
+use Rattle.irt_main.specs.Commands.{plant_refusal, device_file_of, name_of, check_word, show_word, steps_of}
 use Rattle.irt_main.specs.Lines.{usage_line, malformed_line, accept_line, reject_line}
 
 -- ---- what files hold
@@ -93,9 +92,9 @@ pub record IsPlantFault (files : Files) (words : List (List ℕ)) (e : Ending) :
   pub command : check_word words ≡ Some name
   pub bytes : List ℕ
   pub held : IsHeld files name PLANT_FILE bytes
-  pub fault : PlantFault
-  pub refused : plant_of bytes ≡ Err fault
-  pub is : e ≡ plant_fault fault
+  pub refusal : PlantRefusal
+  pub refused : plant_of bytes ≡ Err refusal
+  pub is : e ≡ plant_refusal refusal
 
 -- the bytes of a device file spell no bundle
 pub record IsMalformed (files : Files) (name : List ℕ) (e : Ending) : Type 0 where

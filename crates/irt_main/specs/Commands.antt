@@ -9,9 +9,7 @@ use Rattle.irt_block.specs.Header.{whole_of}
 use Rattle.irt_bundle.specs.Bundles.{bundle_in}
 use Rattle.irt_show.specs.Show.{bundle_text}
 use Rattle.irt_steps.specs.Steps.{Ending, ending, Steps, gives, ends, loads, asks, after, judged}
-use Rattle.irt_topo.specs.Reading.{plant_of}
-use Rattle.irt_topo.specs.declared.fault.PlantFault.{PlantFault}
-use Rattle.irt_topo.specs.declared.fault.PlantFault.TheVariants as faults
+use Rattle.irt_topo.specs.Reading.{PlantRefusal, not_toml, breaks, plant_of}
 use Rattle.plan_rules.specs.Plan.{IsPlan}
 use Rattle.plan_rules.specs.Places.{IsAccepted, IsReject}
 use Rattle.plan_rules.specs.declared.place.Reject.{Reject}
@@ -20,14 +18,13 @@ use Rattle.irt_main.specs.Words.{file_word}
 
 -- ---- a plant's file
 
-abbrev pub plant_fault : PlantFault → Ending
-plant_fault faults.NotToml = ending 5 not_toml_line
-plant_fault (faults.Rule number index) = ending 5 (rule_line number index)
-plant_fault faults.NoMemory = ending 13 []
+abbrev pub plant_refusal : PlantRefusal → Ending
+plant_refusal not_toml = ending 5 not_toml_line
+plant_refusal (breaks number index) = ending 5 (rule_line number index)
 
-abbrev pub plant_answer : Result Plant PlantFault → Result Plant Ending
+abbrev pub plant_answer : Result Plant PlantRefusal → Result Plant Ending
 plant_answer (Ok plant) = Ok plant
-plant_answer (Err fault) = Err (plant_fault fault)
+plant_answer (Err refusal) = Err (plant_refusal refusal)
 
 abbrev pub plant_steps : List ℕ → Steps Plant
 plant_steps name = after (loads name PLANT_FILE (λ bytes. gives bytes)) (λ bytes. judged (plant_answer (plant_of bytes)))
