@@ -13,10 +13,11 @@ use Rattle.irt_steps.specs.declared.stop.Stop.TheVariants as stops
 use Rattle.irt_steps.specs.Steps.{ending, gives}
 use Rattle.irt_steps.specs.Follow.{Follows, Decides, IsEnding}
 use Rattle.irt_steps.proofs.StepLemmas.{follow_on, follow_stop, follow_decided}
+use Rattle.plan_check.specs.Verdicts.{IsJudged}
 use Rattle.plan_rules.specs.Plan.{IsPlan}
 use Rattle.plan_rules.specs.Places.{IsReject}
 use Rattle.plan_rules.specs.declared.place.Reject.{Reject}
-use Rattle.irt_main.specs.Commands.{device_steps, bundles_steps, verdict_steps, name_of, IsJudged}
+use Rattle.irt_main.specs.Commands.{device_steps, bundles_steps, verdict_steps, name_of}
 use Rattle.irt_main.specs.Lines.{reject_line}
 
 -- a device that was looked up

@@ -13,7 +13,7 @@ use Rattle.irt_steps.specs.Steps.{Ending, gives, IsOneWay}
 use Rattle.irt_steps.proofs.EndedLemmas.{exact_of}
 use Rattle.irt_steps.proofs.OneWay.{judged_one, after_one}
 use Rattle.irt_topo.specs.Reading.{plant_of}
-use Rattle.plan_check.proofs.Answering.{one_reject, refuted}
+use Rattle.plan_rules.proofs.Verdicts.{one_reject, refuted}
 use Rattle.plan_rules.specs.declared.place.Reject.{Reject}
 use Rattle.irt_main.specs.Commands.{plant_steps, plant_answer, blocks_steps, bundle_steps, bundle_answer, device_file_of, device_steps, bundles_steps, IsCheck, verdict_answer, verdict_steps, command_steps, check_word, show_word, steps_of}
 

@@ -14,7 +14,7 @@ use Rattle.irt_steps.specs.Follow.{Told}
 use Rattle.irt_steps.proofs.EndedLemmas.{complete_of}
 use Rattle.irt_steps.proofs.StepLemmas.{comes_by, read_held}
 use Rattle.irt_topo.specs.Reading.{plant_of}
-use Rattle.plan_check.proofs.Answering.{refuted}
+use Rattle.plan_rules.proofs.Verdicts.{refuted}
 use Rattle.plan_rules.specs.Places.{IsAccepted}
 use Rattle.irt_main.specs.Commands.{plant_steps, plant_answer, blocks_steps, bundle_steps, bundle_answer, device_file_of, device_steps, bundles_steps, verdict_steps, check_steps, show_steps, command_steps, show_word, steps_of}
 use Rattle.irt_main.specs.Causes.{IsPlantFile, IsBundleFile, AreBundleFiles, ArePlanFiles, IsRight}

@@ -11,7 +11,7 @@ use Rattle.irt_show.specs.Show.{bundle_text}
 use Rattle.irt_steps.specs.Steps.{Ending, ending, Steps, gives, ends, loads, asks, after, judged}
 use Rattle.irt_topo.specs.Reading.{PlantRefusal, not_toml, breaks, plant_of}
 use Rattle.plan_rules.specs.Plan.{IsPlan}
-use Rattle.plan_rules.specs.Places.{IsAccepted, IsReject}
+use Rattle.plan_check.specs.Verdicts.{IsJudged}
 use Rattle.plan_rules.specs.declared.place.Reject.{Reject}
 use Rattle.irt_main.specs.Lines.{usage_line, not_toml_line, rule_line, malformed_line, accept_line, reject_line}
 use Rattle.irt_main.specs.Words.{file_word}
@@ -52,11 +52,6 @@ bundles_steps [] front = gives front
 bundles_steps (d ∷ more) front = after (device_steps d front) (bundles_steps more)
 
 -- ---- check
-
--- the rules accept the blocks, or this is the first rule that fails
-abbrev pub IsJudged : Plant → List Bundle → Option Reject → Type 0
-IsJudged plant bundles None = IsAccepted plant bundles
-IsJudged plant bundles (Some reject) = IsReject plant bundles reject
 
 -- what a check of a plan answers
 pub record IsCheck (plant : Plant) (bundles : List Bundle) (answer : Option Reject) : Type 0 where

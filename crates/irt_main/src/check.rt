@@ -7,7 +7,8 @@ ghost use Rattle.irt_io.specs.Fault.{IsLater};
 ghost use Rattle.plant_rules.specs.Meets.{MeetsRules, IsDevice};
 ghost use Rattle.plan_rules.specs.Plan.{IsPlan};
 ghost use Rattle.irt_steps.specs.Follow.{Follows, Decides, HasCause, IsEnding, IsNoFault};
-ghost use Rattle.irt_main.specs.Commands.{check_steps, blocks_steps, bundles_steps, device_steps, verdict_steps, name_of, IsJudged};
+ghost use Rattle.irt_main.specs.Commands.{check_steps, blocks_steps, bundles_steps, device_steps, verdict_steps, name_of};
+ghost use Rattle.plan_check.specs.Verdicts.{IsJudged};
 ghost use Rattle.irt_main.specs.Lines.{reject_line};
 
 use crate::files::{device_file, load_bundle, load_plant};
@@ -19,7 +20,6 @@ use irt_base::plants::{Device, Plant};
 use irt_io::shelf::Shelf;
 use irt_steps::line::line_stop;
 use irt_steps::stop::{Cause, Stop};
-use plan_check::check::Verdict;
 use plan_rules::place::Reject;
 use std::alloc::Global;
 
@@ -110,10 +110,7 @@ fn judge(alloc: Global, plant: &Plant, bundles: &[Bundle]) -> Result<Option<Reje
     requires { IsPlan plant.now bundles.now }
     ensures { IfOk result (IsJudged plant.now bundles.now) }
 {
-    match plan_check::check::check(alloc, plant, bundles)? {
-        Verdict::Accept(_) => Ok(None),
-        Verdict::Reject(reject) => Ok(Some(reject)),
-    }
+    plan_check::check::judge_plan(alloc, plant, bundles)
 }
 
 /// What a rule that fails ends the command with.
