@@ -113,5 +113,11 @@ pub fn budget(tree: &ClockTree, plant: &Plant, device: DevId, send: u32, timeout
         return 0;
     }
     let hops = hops_at(&tree.hops, device);
-    budget_over(u32::from(hops), plant.sync.stamp, plant.sync.drift, send, timeout)
+    budget_over(
+        u32::from(hops),
+        plant.sync.stamp,
+        plant.sync.drift,
+        send,
+        timeout,
+    )
 }

@@ -105,7 +105,6 @@ peers_within p device port far (Some l) m at is =
     let (there, _) = port_from p.devices (far_end device port l).0.0 (far_end device port l).1.0 m.devices (far_there p device port l of) in
     (here, within, subst (λ (f : DevId × PortNo). f.0.0 < length p.devices) (same_Some (far_end device port l) far is) there)
 
-
 -- ---- links entered from the last to the first
 
 -- the first link that passes, its number and what is found
