@@ -10,7 +10,7 @@ use Rattle.irt_topo.specs.declared.rules.Rule.{Rule}
 use Rattle.irt_topo.specs.declared.rules.Rule.TheVariants as rules
 use Rattle.irt_topo.proofs.LeastFrom.{found_passes, none_passes}
 use Rattle.irt_topo.proofs.Facts.{HasRoom, says, gives, everywhere}
-use Rattle.irt_topo.proofs.RuleLaws.{AllHold, none_fails-back}
+use Rattle.irt_topo.proofs.RuleLaws.{AllHold, none_fails-back, or_next_none}
 use Rattle.irt_topo.proofs.Meeting.{MeetsRules-from_none, first_failure-from_MeetsRules}
 
 -- rules of these numbers in turn
@@ -82,10 +82,6 @@ first_of (rule ∷ rest) p n f from below e =
 
 pub failure_is_first : (p : Plant) (f : Rule × ℕ) → first_failure p ≡ Some f → FailsFirst p (number_of f.0) f.1
 failure_is_first p f e = first_of rule_order p 2 f in_order (first_two p) e
-
-or_next_none : (rule : Rule) (here : Option ℕ) (next : Option (Rule × ℕ)) → or_next rule here next ≡ None → (here ≡ None) × (next ≡ None)
-or_next_none rule None next e = (refl, e)
-or_next_none rule (Some i) next e = absurd cc
 
 all_of : (order : List Rule) (p : Plant) (n : ℕ) → AreFrom n order → KeepsBelow p n → first_failing order p ≡ None → KeepsBelow p (length order + n)
 all_of [] p n from below e = λ number at less. below number at (omega (arith, less))

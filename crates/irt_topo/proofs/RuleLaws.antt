@@ -29,7 +29,7 @@ abbrev pub AllHold : List Rule → Plant → Type 0
 AllHold [] p = Unit {0}
 AllHold (rule ∷ rest) p = ((index : ℕ) → index < places rule p → holds rule p index ≡ true) × AllHold rest p
 
-or_next_none : (rule : Rule) (here : Option ℕ) (next : Option (Rule × ℕ)) → or_next rule here next ≡ None → (here ≡ None) × (next ≡ None)
+pub or_next_none : (rule : Rule) (here : Option ℕ) (next : Option (Rule × ℕ)) → or_next rule here next ≡ None → (here ≡ None) × (next ≡ None)
 or_next_none rule None next e = (refl, e)
 or_next_none rule (Some i) next e = absurd cc
 
