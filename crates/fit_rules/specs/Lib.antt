@@ -1,0 +1,6 @@
+pub mod Shape
+pub mod Fit
+pub mod Order
+pub mod Blocks
+pub mod Printed
+pub mod Moves
