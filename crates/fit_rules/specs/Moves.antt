@@ -1,5 +1,6 @@
--- Frames whose entries differ by one offset, and the offsets that a placed frame blocks.
+-- Frames whose entries differ by one offset, and the offsets that a placed frame blocks. Times are ns.
 use Rattle.std.specs.Prelude.{◌≡◌, ℕ, ◌+◌, ◌<◌}
+use Rattle.irt_base.specs.Cycle.{wire_time}
 use Rattle.irt_base.specs.declared.blocks.Entry.{Entry}
 use Rattle.irt_base.specs.declared.plants.Plant.{Plant}
 use Rattle.plan_rules.specs.SendWindow.{SendWindow, slack_time}
@@ -13,11 +14,13 @@ pub record IsAlike (e g : Entry) : Type 0 where
   pub rx_port : g.rx_port ≡ e.rx_port
   pub tx : g.tx ≡ e.tx
 
--- the window, later by so much
-abbrev pub later : ℕ → SendWindow → SendWindow
-later gap w = record { lo = w.lo + gap; hi = w.hi + gap; anchor = w.anchor }
+-- The second window is the first one, with the anchor's offset changed from x to y.
+pub record IsShifted (x y : ℕ) (w v : SendWindow) : Type 0 where
+  pub lo : v.lo + x ≡ w.lo + y
+  pub hi : v.hi + x ≡ w.hi + y
+  pub anchor : v.anchor ≡ w.anchor
 
--- Later by x, a window w of a frame of this wire time meets a placed one v, of its own wire time.
-pub record Blocks (plant : Plant) (wire other_wire : ℕ) (w v : SendWindow) (x : ℕ) : Type 0 where
-  pub starts : v.lo < w.hi + x + wire + slack_time plant.window w.anchor v.anchor
-  pub ends : w.lo + x < v.hi + other_wire + slack_time plant.window v.anchor w.anchor
+-- Two sendings of one direction are too close: neither is before the other.
+pub record AreTooClose (plant : Plant) (e : Entry) (w : SendWindow) (f : Entry) (v : SendWindow) : Type 0 where
+  pub not_before : v.lo < w.hi + wire_time e.data_length + slack_time plant.window w.anchor v.anchor
+  pub not_after : w.lo < v.hi + wire_time f.data_length + slack_time plant.window v.anchor w.anchor

@@ -5,3 +5,4 @@
 
 pub mod fixed;
 pub mod frame_plan;
+pub mod law;
