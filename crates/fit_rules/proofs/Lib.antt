@@ -1,2 +1,5 @@
+pub mod Alike
+pub mod Bytes
 pub mod Entries
+pub mod Known
 pub mod Sliding
