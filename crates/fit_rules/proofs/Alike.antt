@@ -20,7 +20,7 @@ use Rattle.plan_rules.specs.Frames.{IsForwarded, IsSending, IsBefore}
 use Rattle.fit_rules.specs.declared.frame_plan.FramePlan.{FramePlan}
 use Rattle.fit_rules.specs.Shape.{alone, moved, entry_of, with_offset, IsOn, IsSentBy, IsEntryOf, HasShape}
 use Rattle.fit_rules.specs.Fit.{IsUsing, AreClear, IsClearAt, HasRoom, IsReady, IsForwardReady, end_time}
-use Rattle.fit_rules.specs.Moves.{IsAlike, IsShifted}
+use Rattle.fit_rules.specs.Moves.{IsAlike, IsShifted, offset_at, AgreeAbove}
 use Rattle.fit_rules.proofs.Bytes.{same_bytes}
 use Rattle.fit_rules.proofs.Entries.{setup, entry_in, no_entry, entry_from, entry_stands}
 use Rattle.fit_rules.proofs.Sliding.{Twin, HasTwins, HasOffset, alike_leaves, alike_parent, alike_self, flipped, slides, moved_offset}
@@ -185,10 +185,6 @@ clear_alike plant parents placed demand ratio phase plan other first second anch
     let its : IsUsing plant (moved plan anchor x) device port e v = subst (λ (f : FrameId). IsSending (alone plant (moved plan anchor x)) device port f.0 e v) frames now in
     alike_room plant placed device port e g v (flipped g e alike) (clear device port e v its hangs)
 
--- the offsets at a device
-abbrev pub offset_at : FramePlan → ℕ → Option ℕ
-offset_at plan device = option_map (λ (e : Entry). e.send_offset) (entry_of plan device)
-
 -- a window hangs on an anchor
 pub anchor_entry : (s : Setup) (frame device : ℕ) (w : SendWindow) → HasWindow s frame device w →
     (e : Entry) × (entry_at s w.anchor frame ≡ Some e) × IsAnchor s w.anchor e
@@ -215,11 +211,6 @@ window_alike plant parents demand ratio phase plan other first second device w s
     let (v, now, shifted) = slides plant (alone plant plan).blocks (alone plant other).blocks plan.frame.0 w.anchor x x
     (twins_of plant parents demand ratio phase plan other first second) before after device w refl sends in
     subst (HasWindow (alone plant other) plan.frame.0 device) (sym (same_window x w v shifted)) now
-
--- the offsets agree at the anchor on which the parent's window hangs
-abbrev pub AgreeAbove : Plant → FramePlan → FramePlan → ℕ → Entry → Type 0
-AgreeAbove plant plan other device e = (hop : ℕ) (w : SendWindow) → IsForwarded (alone plant plan) device plan.frame.0 e hop w →
-    offset_at plan w.anchor ≡ offset_at other w.anchor
 
 forwarded_alike : (plant : Plant) (parents : Parents) (demand : Demand) (ratio phase : ℕ) (plan other : FramePlan) →
     HasShape plant parents demand ratio phase plan → HasShape plant parents demand ratio phase other →

@@ -42,3 +42,7 @@ pub record Known : Type 0 where
   pub start : NoneToStart
   pub chains : HasChains
   pub leaves : HasLeaves
+
+pub known : OneParent → OneWindow → OneTreeParent → NoneToStart → HasChains → HasLeaves → Known
+known parents windows tree_parents start chains leaves =
+    record { parents = parents; windows = windows; tree_parents = tree_parents; start = start; chains = chains; leaves = leaves }

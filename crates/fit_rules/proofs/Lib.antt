@@ -2,4 +2,9 @@ pub mod Alike
 pub mod Bytes
 pub mod Entries
 pub mod Known
+pub mod Links
+pub mod Lists
+pub mod Once
+pub mod Placing
+pub mod Routed
 pub mod Sliding

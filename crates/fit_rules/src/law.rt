@@ -1,14 +1,21 @@
 //! Laws of first fit.
 
-ghost use Rattle.std.specs.Prelude.{◌≡◌, ℕ, ◌+◌, ◌≤◌, ◌<◌, List, Contains};
+ghost use Rattle.std.specs.Prelude.{◌≡◌, ℕ, ◌+◌, ◌≤◌, ◌<◌, List, Some, Contains};
 ghost use Rattle.irt_base.specs.Cycle.{SharesCycle, wire_time};
 ghost use Rattle.irt_base.specs.declared.blocks.Entry.{Entry};
+ghost use Rattle.irt_base.specs.declared.plants.Demand.{Demand};
 ghost use Rattle.irt_base.specs.declared.plants.Plant.{Plant};
+ghost use Rattle.irt_route.specs.Routes.{RouteTables, IsRoutesOf};
+ghost use Rattle.irt_route.specs.Trees.{Parents};
 ghost use Rattle.plan_rules.specs.SendWindow.{SendWindow, slack_time};
 ghost use Rattle.fit_rules.specs.declared.frame_plan.FramePlan.{FramePlan};
-ghost use Rattle.fit_rules.specs.Shape.{moved};
-ghost use Rattle.fit_rules.specs.Fit.{IsUsing, IsClearAt, end_time};
-ghost use Rattle.fit_rules.specs.Moves.{IsAlike, IsShifted, AreTooClose};
+ghost use Rattle.fit_rules.specs.Shape.{entry_of, moved, HasShape};
+ghost use Rattle.fit_rules.specs.Fit.{IsUsing, IsClearAt, IsReady, IsFitted, IsInPhase, IsFirstFit, end_time};
+ghost use Rattle.fit_rules.specs.Moves.{IsAlike, IsShifted, AreTooClose, AgreeAbove};
+ghost use Rattle.fit_rules.specs.Order.{IsDemandAt, parents_of};
+
+use irt_route::laws::{chains_of_trees, parents_of_trees};
+use plan_rules::ways::ways_are_one;
 
 /// The windows that hang on an anchor move with its offset. What a placed frame blocks at one offset it blocks at
 /// all later ones up to its own end, and what ends too late does so at all later ones.
@@ -26,3 +33,41 @@ pub fn offsets_jump()
         IsUsing plant (moved plan anchor x) device port e w → w.anchor ≡ anchor → plant.red_max < end_time plant device e w → x ≤ y →
         ¬ IsClearAt plant placed plan anchor y }
 {}
+
+/// Two plans of a demand in one ratio and phase have the same entries but for offsets. So an offset is clear in both or
+/// in neither. Where they agree above an anchor, they agree at it if both are fitted there, and neither is fitted there
+/// if nothing from the ready time on is clear.
+pub fn shapes_are_one()
+    ensures clear { (plant : Plant) (parents : Parents) (placed : List FramePlan) (demand : Demand) (ratio phase : ℕ) (plan other : FramePlan) →
+        HasShape plant parents demand ratio phase plan → HasShape plant parents demand ratio phase other → (device offset : ℕ) →
+        IsClearAt plant placed plan device offset → IsClearAt plant placed other device offset }
+    ensures fitted { (plant : Plant) (routes : RouteTables) (index : ℕ) (demand : Demand) → IsRoutesOf plant routes → IsDemandAt plant index demand →
+        (placed : List FramePlan) (ratio phase : ℕ) (plan other : FramePlan) →
+        HasShape plant (parents_of routes index) demand ratio phase plan → HasShape plant (parents_of routes index) demand ratio phase other →
+        (device : ℕ) (e g : Entry) → entry_of plan device ≡ Some e → entry_of other device ≡ Some g → AgreeAbove plant plan other device e →
+        IsFitted plant placed plan device e → IsFitted plant placed other device g → e.send_offset ≡ g.send_offset }
+    ensures none { (plant : Plant) (routes : RouteTables) (index : ℕ) (demand : Demand) → IsRoutesOf plant routes → IsDemandAt plant index demand →
+        (placed : List FramePlan) (ratio phase : ℕ) (plan other : FramePlan) →
+        HasShape plant (parents_of routes index) demand ratio phase plan → HasShape plant (parents_of routes index) demand ratio phase other →
+        (device : ℕ) (e g : Entry) → entry_of plan device ≡ Some e → entry_of other device ≡ Some g → AgreeAbove plant plan other device e →
+        (ready : ℕ) → IsReady plant plan device e ready → ((x : ℕ) → ready ≤ x → ¬ IsClearAt plant placed plan device x) →
+        ¬ IsFitted plant placed other device g }
+{
+    ways_are_one();
+    parents_of_trees();
+    chains_of_trees();
+}
+
+/// A demand has at most one plan in a phase, and at most one first fit beside the frames placed.
+pub fn placements_are_one()
+    ensures in_phase { (plant : Plant) (routes : RouteTables) (index : ℕ) (demand : Demand) → IsRoutesOf plant routes → IsDemandAt plant index demand →
+        (placed : List FramePlan) (phase : ℕ) (plan other : FramePlan) → IsInPhase plant (parents_of routes index) placed demand phase plan →
+        IsInPhase plant (parents_of routes index) placed demand phase other → plan ≡ other }
+    ensures first { (plant : Plant) (routes : RouteTables) (index : ℕ) (demand : Demand) → IsRoutesOf plant routes → IsDemandAt plant index demand →
+        (placed : List FramePlan) (plan other : FramePlan) → IsFirstFit plant (parents_of routes index) placed demand plan →
+        IsFirstFit plant (parents_of routes index) placed demand other → plan ≡ other }
+{
+    ways_are_one();
+    parents_of_trees();
+    chains_of_trees();
+}
