@@ -1,9 +1,12 @@
 pub mod Alike
 pub mod Bytes
 pub mod Entries
+pub mod Finding
+pub mod FrameRules
 pub mod Known
 pub mod Links
 pub mod Lists
+pub mod Merged
 pub mod Once
 pub mod Placing
 pub mod Routed
