@@ -3,11 +3,13 @@ pub mod Bytes
 pub mod Entries
 pub mod Finding
 pub mod FrameRules
+pub mod HeaderRules
 pub mod Known
 pub mod Links
 pub mod Lists
 pub mod Merged
 pub mod Once
+pub mod PeriodRules
 pub mod Placing
 pub mod Routed
 pub mod Sliding

@@ -17,3 +17,6 @@ routed_at known plant routes index demand are at = record {
   valid = each_at (IsDemand plant) plant.demands index demand are.rules.demands at;
   tree = are.trees index demand at;
 }
+
+pub valid_at : (plant : Plant) (routes : RouteTables) (index : ℕ) (demand : Demand) → IsRoutesOf plant routes → IsDemandAt plant index demand → IsDemand plant demand
+valid_at plant routes index demand are at = each_at (IsDemand plant) plant.demands index demand are.rules.demands at
