@@ -66,7 +66,7 @@ frame_named plant routes plan s = ap (λ (f : FrameId). f.0) s.shape.frame
 no_bits : (n k : ℕ) → IsBitSet n k → n ≢ 0
 no_bits n k set none = subst (λ m. IsBitSet m k) none set refl
 
-provided_rx : (plant : Plant) (routes : RouteTables) (plan : FramePlan) → (s : IsShaped plant routes plan) → (device : ℕ) (e : Entry) →
+pub provided_rx : (plant : Plant) (routes : RouteTables) (plan : FramePlan) → (s : IsShaped plant routes plan) → (device : ℕ) (e : Entry) →
     entry_of plan device ≡ Some e → e.rx_port ≡ 0 → IsOn s.demand (parents_of routes s.index) device → device ≡ s.demand.provider.0
 provided_rx plant routes plan s device e is none (inl own) = own
 provided_rx plant routes plan s device e is none (inr (from, at)) =

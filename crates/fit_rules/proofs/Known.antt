@@ -12,6 +12,10 @@ use Rattle.plant_rules.specs.Meets.{MeetsRules}
 use Rattle.plan_rules.specs.Way.{Setup, IsParent}
 use Rattle.plan_rules.specs.SendWindow.{SendWindow, HasWindow}
 
+abbrev pub AreMutual : Type 0
+AreMutual = (plant : Plant) → MeetsRules plant → (d p v q : ℕ) → peer_of plant d p ≡ Some (record { 0 = v }, record { 0 = q }) →
+    peer_of plant v q ≡ Some (record { 0 = d }, record { 0 = p })
+
 abbrev pub OneParent : Type 0
 OneParent = (setup : Setup) → MeetsRules setup.plant → (frame device : ℕ) (e : Entry) (u p v q : ℕ) →
     IsParent setup frame device e u p → IsParent setup frame device e v q → (u ≡ v) × (p ≡ q)
@@ -36,6 +40,7 @@ HasLeaves = (peers : Peers) (start : ℕ) (ends : List DevId) (device : ℕ) →
     IsAmong ends device ⊎ IsLeft peers start (IsAmong ends) device
 
 pub record Known : Type 0 where
+  pub peers : AreMutual
   pub parents : OneParent
   pub windows : OneWindow
   pub tree_parents : OneTreeParent
@@ -43,6 +48,13 @@ pub record Known : Type 0 where
   pub chains : HasChains
   pub leaves : HasLeaves
 
-pub known : OneParent → OneWindow → OneTreeParent → NoneToStart → HasChains → HasLeaves → Known
-known parents windows tree_parents start chains leaves =
-    record { parents = parents; windows = windows; tree_parents = tree_parents; start = start; chains = chains; leaves = leaves }
+pub known : AreMutual → OneParent → OneWindow → OneTreeParent → NoneToStart → HasChains → HasLeaves → Known
+known peers parents windows tree_parents start chains leaves = record {
+  peers = peers;
+  parents = parents;
+  windows = windows;
+  tree_parents = tree_parents;
+  start = start;
+  chains = chains;
+  leaves = leaves;
+}

@@ -1,5 +1,7 @@
+pub mod Accepted
 pub mod Alike
 pub mod Bytes
+pub mod Counting
 pub mod Entries
 pub mod Finding
 pub mod FrameRules
@@ -13,3 +15,4 @@ pub mod PeriodRules
 pub mod Placing
 pub mod Routed
 pub mod Sliding
+pub mod Valid

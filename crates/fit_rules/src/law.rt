@@ -2,13 +2,17 @@
 
 ghost use Rattle.std.specs.Prelude.{◌≡◌, ℕ, ◌+◌, ◌≤◌, ◌<◌, List, Some, Contains};
 ghost use Rattle.irt_base.specs.Cycle.{SharesCycle, wire_time};
+ghost use Rattle.irt_base.specs.declared.blocks.Bundle.{Bundle};
 ghost use Rattle.irt_base.specs.declared.blocks.Entry.{Entry};
 ghost use Rattle.irt_base.specs.declared.plants.Demand.{Demand};
 ghost use Rattle.irt_base.specs.declared.plants.Plant.{Plant};
 ghost use Rattle.irt_route.specs.Routes.{RouteTables, IsRoutesOf};
 ghost use Rattle.irt_route.specs.Trees.{Parents};
+ghost use Rattle.plan_rules.specs.Places.{IsAccepted};
+ghost use Rattle.plan_rules.specs.Plan.{IsPlan};
 ghost use Rattle.plan_rules.specs.SendWindow.{SendWindow, slack_time};
 ghost use Rattle.fit_rules.specs.declared.frame_plan.FramePlan.{FramePlan};
+ghost use Rattle.fit_rules.specs.Blocks.{AreFirstFit};
 ghost use Rattle.fit_rules.specs.Shape.{entry_of, moved, HasShape};
 ghost use Rattle.fit_rules.specs.Fit.{IsUsing, IsClearAt, IsReady, IsFitted, IsInPhase, IsFirstFit, end_time};
 ghost use Rattle.fit_rules.specs.Moves.{IsAlike, IsShifted, AreTooClose, AgreeAbove};
@@ -66,6 +70,18 @@ pub fn placements_are_one()
     ensures first { (plant : Plant) (routes : RouteTables) (index : ℕ) (demand : Demand) → IsRoutesOf plant routes → IsDemandAt plant index demand →
         (placed : List FramePlan) (plan other : FramePlan) → IsFirstFit plant (parents_of routes index) placed demand plan →
         IsFirstFit plant (parents_of routes index) placed demand other → plan ≡ other }
+{
+    ways_are_one();
+    parents_of_trees();
+    chains_of_trees();
+}
+
+/// What first fit gives is a plan, and the rules of a plan hold for it.
+pub fn first_fit_is_accepted()
+    ensures plan { (plant : Plant) (routes : RouteTables) (bundles : List Bundle) → IsRoutesOf plant routes → AreFirstFit plant routes bundles →
+        IsPlan plant bundles }
+    ensures accepted { (plant : Plant) (routes : RouteTables) (bundles : List Bundle) → IsRoutesOf plant routes → AreFirstFit plant routes bundles →
+        IsAccepted plant bundles }
 {
     ways_are_one();
     parents_of_trees();
