@@ -4,20 +4,20 @@ use Rattle.std.specs.Prelude.{AllPairs, slice_index_or}
 use Rattle.std.proofs.lemmas.Option.{same_Some, slice_get_within, get_or_from_slice_get}
 use Rattle.fit_rules.proofs.Entries.{no_entry}
 
-abbrev IsAt : List ℕ → ℕ → Type 0
+abbrev pub IsAt : List ℕ → ℕ → Type 0
 IsAt xs x = (n : ℕ) × (slice_get xs n ≡ Some x)
 
-abbrev without : List ℕ → ℕ → List ℕ
+abbrev pub without : List ℕ → ℕ → List ℕ
 without [] n = []
 without (x ∷ xs) zero = xs
 without (x ∷ xs) (suc n) = x ∷ without xs n
 
-length-without : (xs : List ℕ) (n x : ℕ) → slice_get xs n ≡ Some x → length (without xs n) + 1 ≡ length xs
+pub length-without : (xs : List ℕ) (n x : ℕ) → slice_get xs n ≡ Some x → length (without xs n) + 1 ≡ length xs
 length-without [] n x at = no_entry x at
 length-without (y ∷ ys) zero x at = omega arith
 length-without (y ∷ ys) (suc n) x at = omega (arith, length-without ys n x at)
 
-kept_without : (xs : List ℕ) (m n z x : ℕ) → slice_get xs m ≡ Some z → slice_get xs n ≡ Some x → z ≢ x → IsAt (without xs n) z
+pub kept_without : (xs : List ℕ) (m n z x : ℕ) → slice_get xs m ≡ Some z → slice_get xs n ≡ Some x → z ≢ x → IsAt (without xs n) z
 kept_without [] m n z x there at differ = no_entry z there
 kept_without (y ∷ ys) zero zero z x there at differ = absurd (differ (same_Some z x (sym there ∙ at)))
 kept_without (y ∷ ys) (suc m) zero z x there at differ = (m, there)

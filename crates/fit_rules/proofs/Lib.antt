@@ -11,8 +11,10 @@ pub mod Links
 pub mod Lists
 pub mod Merged
 pub mod Once
+pub mod OneFit
 pub mod PeriodRules
 pub mod Placing
 pub mod Routed
 pub mod Sliding
+pub mod Sorted
 pub mod Valid

@@ -66,7 +66,7 @@ shaped plant routes plans bundles whole plan has =
     let (n, at) = place_of plans plan has in
     shaped_at plant routes whole.fit.order (take n plans) n plan (whole.fit.placed n plan at)
 
-one_farthest : (plant : Plant) (demand : Demand) (n m : ℕ) → HasFarthest plant demand n → HasFarthest plant demand m → n ≤ m
+pub one_farthest : (plant : Plant) (demand : Demand) (n m : ℕ) → HasFarthest plant demand n → HasFarthest plant demand m → n ≤ m
 one_farthest plant demand n m a b = b.bound a.some.0 n a.some.1 a.some.2
 
 -- no demand is earlier than itself
