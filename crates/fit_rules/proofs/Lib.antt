@@ -11,6 +11,7 @@ pub mod Links
 pub mod Lists
 pub mod Merged
 pub mod Once
+pub mod OneBundles
 pub mod OneFit
 pub mod PeriodRules
 pub mod Placing

@@ -4,11 +4,13 @@ use Rattle.std.specs.Prelude.{take, AllPairs, slice_index_or}
 use Rattle.std.proofs.lemmas.Bool.{cases_order, cases_lt}
 use Rattle.std.proofs.lemmas.List.{take_all, take_more}
 use Rattle.std.proofs.lemmas.Option.{same_Some, slice_get_within, get_or_from_slice_get}
+use Rattle.irt_base.specs.declared.blocks.Bundle.{Bundle}
 use Rattle.irt_base.specs.declared.numbers.FrameId.{FrameId}
 use Rattle.irt_base.specs.declared.plants.Demand.{Demand}
 use Rattle.irt_base.specs.declared.plants.Plant.{Plant}
 use Rattle.irt_route.specs.Routes.{RouteTables, IsRoutesOf}
 use Rattle.fit_rules.specs.declared.frame_plan.FramePlan.{FramePlan}
+use Rattle.fit_rules.specs.Blocks.{AreBundlesOf, AreFirstFit}
 use Rattle.fit_rules.specs.Fit.{IsFirstFit, HasNoFit}
 use Rattle.fit_rules.specs.Order.{HasFarthest, IsEarlier, IsDemandAt, IsOrder, parents_of, IsPlacedAt, ArePlaced, IsFit, IsOverrun}
 use Rattle.fit_rules.proofs.Counting.{no_longer, without, length-without, kept_without}
@@ -16,6 +18,7 @@ use Rattle.fit_rules.proofs.Known.{Known}
 use Rattle.fit_rules.proofs.Lists.{place_of, some_at}
 use Rattle.fit_rules.proofs.Merged.{one_farthest, not_earlier}
 use Rattle.fit_rules.proofs.Once.{one_first_fit}
+use Rattle.fit_rules.proofs.OneBundles.{same_bundles}
 use Rattle.fit_rules.proofs.Placing.{routed_at}
 use Rattle.fit_rules.proofs.Sorted.{IsAt, IsStrict, one_sorted}
 
@@ -163,3 +166,8 @@ one_overrun known plant routes are frame other a b =
       | inr (inl less) ↦ absurd (none_after known plant routes are a.order b.plans a.plans placed a.placed a.index a.demand a.next a.there a.none less)
       | inr (inr more) ↦ absurd (none_after known plant routes are a.order a.plans b.plans a.placed placed b.index b.demand next b.there b.none more)
     ]
+
+pub one_first_fit_of : Known → (plant : Plant) (routes : RouteTables) → IsRoutesOf plant routes → (xs ys : List Bundle) → AreFirstFit plant routes xs → AreFirstFit plant routes ys → xs ≡ ys
+one_first_fit_of known plant routes are xs ys a b =
+    let plans = one_fit known plant routes are b.plans a.plans b.fit a.fit in
+    same_bundles plant a.plans xs ys a.blocks (subst (λ ps. AreBundlesOf plant ps ys) plans b.blocks)

@@ -4,6 +4,7 @@ ghost use Rattle.std.specs.Prelude.{◌≡◌, ℕ, ◌+◌, ◌≤◌, ◌<◌,
 ghost use Rattle.irt_base.specs.Cycle.{SharesCycle, wire_time};
 ghost use Rattle.irt_base.specs.declared.blocks.Bundle.{Bundle};
 ghost use Rattle.irt_base.specs.declared.blocks.Entry.{Entry};
+ghost use Rattle.irt_base.specs.declared.numbers.FrameId.{FrameId};
 ghost use Rattle.irt_base.specs.declared.plants.Demand.{Demand};
 ghost use Rattle.irt_base.specs.declared.plants.Plant.{Plant};
 ghost use Rattle.irt_route.specs.Routes.{RouteTables, IsRoutesOf};
@@ -16,7 +17,7 @@ ghost use Rattle.fit_rules.specs.Blocks.{AreFirstFit};
 ghost use Rattle.fit_rules.specs.Shape.{entry_of, moved, HasShape};
 ghost use Rattle.fit_rules.specs.Fit.{IsUsing, IsClearAt, IsReady, IsFitted, IsInPhase, IsFirstFit, end_time};
 ghost use Rattle.fit_rules.specs.Moves.{IsAlike, IsShifted, AreTooClose, AgreeAbove};
-ghost use Rattle.fit_rules.specs.Order.{IsDemandAt, parents_of};
+ghost use Rattle.fit_rules.specs.Order.{IsDemandAt, parents_of, IsFit, IsOverrun};
 
 use irt_route::laws::{chains_of_trees, parents_of_trees};
 use plan_rules::ways::ways_are_one;
@@ -82,6 +83,22 @@ pub fn first_fit_is_accepted()
         IsPlan plant bundles }
     ensures accepted { (plant : Plant) (routes : RouteTables) (bundles : List Bundle) → IsRoutesOf plant routes → AreFirstFit plant routes bundles →
         IsAccepted plant bundles }
+{
+    ways_are_one();
+    parents_of_trees();
+    chains_of_trees();
+}
+
+/// First fit has one answer: the same plans and the same bundles, or an overrun at the same frame.
+pub fn first_fit_is_one()
+    ensures plans { (plant : Plant) (routes : RouteTables) (plans others : List FramePlan) → IsRoutesOf plant routes →
+        IsFit plant routes plans → IsFit plant routes others → plans ≡ others }
+    ensures bundles { (plant : Plant) (routes : RouteTables) (bundles others : List Bundle) → IsRoutesOf plant routes →
+        AreFirstFit plant routes bundles → AreFirstFit plant routes others → bundles ≡ others }
+    ensures excluded { (plant : Plant) (routes : RouteTables) (plans : List FramePlan) (frame : FrameId) → IsRoutesOf plant routes →
+        IsFit plant routes plans → IsOverrun plant routes frame → ⊥ }
+    ensures overruns { (plant : Plant) (routes : RouteTables) (frame other : FrameId) → IsRoutesOf plant routes →
+        IsOverrun plant routes frame → IsOverrun plant routes other → frame ≡ other }
 {
     ways_are_one();
     parents_of_trees();
