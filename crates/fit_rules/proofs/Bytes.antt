@@ -6,10 +6,10 @@ use Rattle.std.proofs.lemmas.Bool.{cases_eq}
 use Rattle.std.proofs.lemmas.Nat.{bit_set_by_shift}
 use Rattle.std.proofs.lemmas.Nat.Bits.{shr_and_one, bit_at-lt, same_from_bits}
 
-one_at : (n k : ℕ) → IsBitSet n k → bit_at n k ≡ 1
+pub one_at : (n k : ℕ) → IsBitSet n k → bit_at n k ≡ 1
 one_at n k set = sym (shr_and_one n k) ∙ (bit_set_by_shift n k).1 set
 
-set_at : (n k : ℕ) → bit_at n k ≡ 1 → IsBitSet n k
+pub set_at : (n k : ℕ) → bit_at n k ≡ 1 → IsBitSet n k
 set_at n k one = (bit_set_by_shift n k).0 (shr_and_one n k ∙ one)
 
 both_or_neither : (a b : ℕ) → a < 2 → b < 2 → (a ≡ 1 → b ≡ 1) → (b ≡ 1 → a ≡ 1) → a ≡ b

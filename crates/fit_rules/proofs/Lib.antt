@@ -16,6 +16,7 @@ pub mod OneFit
 pub mod PeriodRules
 pub mod Placing
 pub mod Routed
+pub mod Shapes
 pub mod Sliding
 pub mod Sorted
 pub mod Valid

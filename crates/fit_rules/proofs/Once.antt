@@ -177,6 +177,13 @@ same_plans plant parents placed demand ratio phase plan other pair =
 pub same_ratio : (plant : Plant) (demand : Demand) (r s : ℕ) → IsRatioFor plant demand r → IsRatioFor plant demand s → r ≡ s
 same_ratio plant demand r s a b = omega (arith, a.greatest s b.is b.update, b.greatest r a.is a.update)
 
+-- one last end
+pub same_end : (plant : Plant) (plan : FramePlan) (n m : ℕ) → IsLastEnd plant plan n → IsLastEnd plant plan m → n ≡ m
+same_end plant plan n m a b =
+    let (d, p, e, w, sends, is) = a.some in
+    let (v, q, f, u, also, at) = b.some in
+    omega (arith, is, at, b.bound d p e w sends, a.bound v q f u also)
+
 -- In a phase a demand has at most one plan.
 pub one_in_phase : (plant : Plant) (parents : Parents) (demand : Demand) → IsRouted plant parents demand → (placed : List FramePlan) (phase : ℕ) (plan other : FramePlan) →
     IsInPhase plant parents placed demand phase plan → IsInPhase plant parents placed demand phase other → plan ≡ other

@@ -14,8 +14,8 @@ ghost use Rattle.plan_rules.specs.Plan.{IsPlan};
 ghost use Rattle.plan_rules.specs.SendWindow.{SendWindow, slack_time};
 ghost use Rattle.fit_rules.specs.declared.frame_plan.FramePlan.{FramePlan};
 ghost use Rattle.fit_rules.specs.Blocks.{AreFirstFit};
-ghost use Rattle.fit_rules.specs.Shape.{entry_of, moved, HasShape};
-ghost use Rattle.fit_rules.specs.Fit.{IsUsing, IsClearAt, IsReady, IsFitted, IsInPhase, IsFirstFit, end_time};
+ghost use Rattle.fit_rules.specs.Shape.{entry_of, moved, IsRatioFor, HasShape};
+ghost use Rattle.fit_rules.specs.Fit.{IsUsing, IsClearAt, IsReady, IsFitted, IsInPhase, IsLastEnd, IsFirstFit, end_time};
 ghost use Rattle.fit_rules.specs.Moves.{IsAlike, IsShifted, AreTooClose, AgreeAbove};
 ghost use Rattle.fit_rules.specs.Order.{IsDemandAt, parents_of, IsFit, IsOverrun};
 
@@ -63,8 +63,11 @@ pub fn shapes_are_one()
     chains_of_trees();
 }
 
-/// A demand has at most one plan in a phase, and at most one first fit beside the frames placed.
+/// A demand has at most one ratio, a frame one last end; so there is at most one plan in a phase, and at most one first
+/// fit beside the frames placed.
 pub fn placements_are_one()
+    ensures ratio { (plant : Plant) (demand : Demand) (ratio other : ℕ) → IsRatioFor plant demand ratio → IsRatioFor plant demand other → ratio ≡ other }
+    ensures end { (plant : Plant) (plan : FramePlan) (end other : ℕ) → IsLastEnd plant plan end → IsLastEnd plant plan other → end ≡ other }
     ensures in_phase { (plant : Plant) (routes : RouteTables) (index : ℕ) (demand : Demand) → IsRoutesOf plant routes → IsDemandAt plant index demand →
         (placed : List FramePlan) (phase : ℕ) (plan other : FramePlan) → IsInPhase plant (parents_of routes index) placed demand phase plan →
         IsInPhase plant (parents_of routes index) placed demand phase other → plan ≡ other }
@@ -99,6 +102,18 @@ pub fn first_fit_is_one()
         IsFit plant routes plans → IsOverrun plant routes frame → ⊥ }
     ensures overruns { (plant : Plant) (routes : RouteTables) (frame other : FrameId) → IsRoutesOf plant routes →
         IsOverrun plant routes frame → IsOverrun plant routes other → frame ≡ other }
+{
+    ways_are_one();
+    parents_of_trees();
+    chains_of_trees();
+}
+
+/// There are plans to choose from: each demand has a ratio, and a shape in any ratio and phase.
+pub fn shapes_exist()
+    ensures ratios { (plant : Plant) (routes : RouteTables) (index : ℕ) (demand : Demand) → IsRoutesOf plant routes → IsDemandAt plant index demand →
+        (ratio : ℕ) × IsRatioFor plant demand ratio }
+    ensures shapes { (plant : Plant) (routes : RouteTables) (index : ℕ) (demand : Demand) → IsRoutesOf plant routes → IsDemandAt plant index demand →
+        (ratio phase : ℕ) → (plan : FramePlan) × HasShape plant (parents_of routes index) demand ratio phase plan }
 {
     ways_are_one();
     parents_of_trees();

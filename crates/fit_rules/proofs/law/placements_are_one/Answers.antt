@@ -1,8 +1,14 @@
 use Rattle.fit_rules.proofs.Known.{known}
-use Rattle.fit_rules.proofs.Once.{one_in_phase, one_first_fit}
+use Rattle.fit_rules.proofs.Once.{same_ratio, same_end, one_in_phase, one_first_fit}
 use Rattle.fit_rules.proofs.Placing.{routed_at}
 use Rattle.fit_rules.specs.Order.{parents_of}
 use Rattle.fit_rules.proofs.law.placements_are_one.Goals as goal
+
+pub returns-clause-ratio : goal.returns-clause-ratio
+returns-clause-ratio c = same_ratio
+
+pub returns-clause-end : goal.returns-clause-end
+returns-clause-end c = same_end
 
 pub returns-clause-in_phase : goal.returns-clause-in_phase
 returns-clause-in_phase c = λ plant routes index demand are at.
