@@ -5,7 +5,6 @@ use Rattle.irt_base.specs.declared.plants.Plant.{Plant}
 use Rattle.irt_route.specs.Routes.{RouteTables, IsRoutesOf}
 use Rattle.plan_rules.specs.Places.{IsAccepted}
 use Rattle.plan_rules.specs.Plan.{IsPlan}
-use Rattle.fit_rules.specs.declared.frame_plan.FramePlan.{FramePlan}
 use Rattle.fit_rules.specs.Blocks.{AreFirstFit}
 use Rattle.fit_rules.proofs.FrameRules.{tree_holds, demand_holds, idle_holds, late_holds, apart_holds, end_holds}
 use Rattle.fit_rules.proofs.HeaderRules.{header_holds, frame_holds, range_holds, clock_holds}

@@ -1,28 +1,25 @@
 -- Two plans of one shape: what hangs on an anchor has room in both at the same offsets, and where the offsets above
 -- agree so do the ready times.
-use Rattle.std.proofs.Common.{◌≡◌, ℕ, zero, suc, ◌+◌, ◌<◌, ◌≤◌, inl, inr, List, [], ◌∷◌, Option, Some, None, cond, Bool, true, false, sym, ◌∙◌, ap, subst, arith, refl}
-use Rattle.std.specs.Prelude.{map, slice_index_or, slice_set, option_map, ◌↔◌, IsBitSet, Contains}
-use Rattle.std.proofs.lemmas.Bool.{cases_eq}
+use Rattle.std.proofs.Common.{◌≡◌, ℕ, zero, suc, ◌+◌, ◌≤◌, inl, inr, List, [], ◌∷◌, Option, Some, None, cond, Bool, true, false, sym, ◌∙◌, ap, subst, arith, refl}
+use Rattle.std.specs.Prelude.{slice_index_or, slice_set, option_map, IsBitSet}
 use Rattle.std.proofs.lemmas.Option.{same_Some}
 use Rattle.irt_base.specs.Cycle.{SharesCycle, wire_time}
-use Rattle.irt_base.specs.Wiring.{peer_of}
 use Rattle.irt_base.specs.declared.blocks.Entry.{Entry}
-use Rattle.irt_base.specs.declared.blocks.FrameBlock.{FrameBlock}
 use Rattle.irt_base.specs.declared.numbers.DevId.{DevId}
 use Rattle.irt_base.specs.declared.numbers.FrameId.{FrameId}
 use Rattle.irt_base.specs.declared.numbers.PortNo.{PortNo}
 use Rattle.irt_base.specs.declared.plants.Demand.{Demand}
 use Rattle.irt_base.specs.declared.plants.Plant.{Plant}
 use Rattle.irt_route.specs.Trees.{Parents}
-use Rattle.plan_rules.specs.Way.{Setup, entry_at, Leaves, IsAnchor, IsParent}
+use Rattle.plan_rules.specs.Way.{Setup, entry_at, IsAnchor}
 use Rattle.plan_rules.specs.SendWindow.{SendWindow, HasWindow, at_anchor, behind, slack_time}
-use Rattle.plan_rules.specs.Frames.{IsForwarded, IsSending, IsBefore}
+use Rattle.plan_rules.specs.Frames.{IsForwarded, IsSending}
 use Rattle.fit_rules.specs.declared.frame_plan.FramePlan.{FramePlan}
-use Rattle.fit_rules.specs.Shape.{alone, moved, entry_of, with_offset, IsOn, IsSentBy, IsEntryOf, HasShape}
-use Rattle.fit_rules.specs.Fit.{IsUsing, AreClear, IsClearAt, HasRoom, IsReady, IsForwardReady, end_time}
+use Rattle.fit_rules.specs.Shape.{alone, moved, entry_of, with_offset, IsOn, IsEntryOf, HasShape}
+use Rattle.fit_rules.specs.Fit.{IsUsing, IsClearAt, HasRoom, IsReady}
 use Rattle.fit_rules.specs.Moves.{IsAlike, IsShifted, offset_at, AgreeAbove}
 use Rattle.fit_rules.proofs.Bytes.{same_bytes}
-use Rattle.fit_rules.proofs.Entries.{setup, entry_in, no_entry, entry_from, entry_stands}
+use Rattle.fit_rules.proofs.Entries.{entry_in, no_entry, entry_from, entry_stands}
 use Rattle.fit_rules.proofs.Sliding.{Twin, HasTwins, HasOffset, alike_leaves, alike_parent, alike_self, flipped, slides, moved_offset}
 
 -- entries of one device in two plans of one shape
@@ -99,26 +96,34 @@ moved_entries entries device x = slice_set entries device (option_map (with_offs
 
 kept_back : (b : Bool) (r e : Entry) (x : ℕ) → cond b (Some (with_offset x r)) None ≡ Some e → Twin (cond b (Some r) None) e
 kept_back true r e x is =
-    let same = same_Some (with_offset x r) e is in (r, refl, record {
-      frame = ap (λ (z : Entry). z.frame) same;
-      length = ap (λ (z : Entry). z.data_length) same;
-      ratio = ap (λ (z : Entry). z.ratio) same;
-      phase = ap (λ (z : Entry). z.phase) same;
-      rx_port = ap (λ (z : Entry). z.rx_port) same;
-      tx = ap (λ (z : Entry). z.tx) same;
-    })
+    let same = same_Some (with_offset x r) e is in (
+      r,
+      refl,
+      record {
+        frame = ap (λ (z : Entry). z.frame) same;
+        length = ap (λ (z : Entry). z.data_length) same;
+        ratio = ap (λ (z : Entry). z.ratio) same;
+        phase = ap (λ (z : Entry). z.phase) same;
+        rx_port = ap (λ (z : Entry). z.rx_port) same;
+        tx = ap (λ (z : Entry). z.tx) same;
+      },
+    )
 kept_back false r e x is = no_entry e is
 
 kept_on : (b : Bool) (r e : Entry) (x : ℕ) → cond b (Some r) None ≡ Some e → Twin (cond b (Some (with_offset x r)) None) e
 kept_on true r e x is =
-    let same = same_Some r e is in (with_offset x r, refl, record {
-      frame = ap (λ (z : Entry). z.frame) same;
-      length = ap (λ (z : Entry). z.data_length) same;
-      ratio = ap (λ (z : Entry). z.ratio) same;
-      phase = ap (λ (z : Entry). z.phase) same;
-      rx_port = ap (λ (z : Entry). z.rx_port) same;
-      tx = ap (λ (z : Entry). z.tx) same;
-    })
+    let same = same_Some r e is in (
+      with_offset x r,
+      refl,
+      record {
+        frame = ap (λ (z : Entry). z.frame) same;
+        length = ap (λ (z : Entry). z.data_length) same;
+        ratio = ap (λ (z : Entry). z.ratio) same;
+        phase = ap (λ (z : Entry). z.phase) same;
+        rx_port = ap (λ (z : Entry). z.rx_port) same;
+        tx = ap (λ (z : Entry). z.tx) same;
+      },
+    )
 kept_on false r e x is = no_entry e is
 
 moved_back : (plant : Plant) (frame : ℕ) (entries : List (Option Entry)) (anchor x d : ℕ) (e : Entry) →
@@ -162,7 +167,7 @@ alike_room plant placed device port e g w alike room = record {
   red = subst (λ n. w.hi + wire_time n + slack_time plant.window device w.anchor ≤ plant.red_max) (sym alike.length) room.red;
   apart = λ other f v among using shared.
       let shares : SharesCycle e.ratio e.phase f.ratio f.phase =
-          subst (λ r. SharesCycle r e.phase f.ratio f.phase) alike.ratio (subst (λ p. SharesCycle g.ratio p f.ratio f.phase) alike.phase shared) in
+      subst (λ r. SharesCycle r e.phase f.ratio f.phase) alike.ratio (subst (λ p. SharesCycle g.ratio p f.ratio f.phase) alike.phase shared) in
       elim (room.apart other f v among using shares) [
         | inl before ↦ inl (subst (λ n. w.hi + wire_time n + slack_time plant.window w.anchor v.anchor ≤ v.lo) (sym alike.length) before)
         | inr after ↦ inr after
@@ -181,7 +186,7 @@ clear_alike plant parents placed demand ratio phase plan other first second anch
     (moved_offset plant other.frame.0 other.entries anchor x) (moved_offset plant other.frame.0 plan.entries anchor x) device v hangs using.sends in
     let windows = same_window x v w shifted in
     let now : IsSending (alone plant (moved plan anchor x)) device port other.frame.0 e v =
-        record { stands = at; leaves = alike_leaves g e port alike using.leaves; sends = subst (HasWindow (alone plant (moved plan anchor x)) other.frame.0 device) (sym windows) sends } in
+    record { stands = at; leaves = alike_leaves g e port alike using.leaves; sends = subst (HasWindow (alone plant (moved plan anchor x)) other.frame.0 device) (sym windows) sends } in
     let its : IsUsing plant (moved plan anchor x) device port e v = subst (λ (f : FrameId). IsSending (alone plant (moved plan anchor x)) device port f.0 e v) frames now in
     alike_room plant placed device port e g v (flipped g e alike) (clear device port e v its hangs)
 
@@ -205,9 +210,9 @@ window_alike plant parents demand ratio phase plan other first second device w s
     let x = own.send_offset in
     let here : offset_at plan w.anchor ≡ Some x = offset_of plant plan.frame.0 plan w.anchor own at in
     let before : HasOffset plant (alone plant plan).blocks plan.frame.0 w.anchor x =
-        λ e is. same_Some e.send_offset x (sym (offset_of plant plan.frame.0 plan w.anchor e is) ∙ here) in
+    λ e is. same_Some e.send_offset x (sym (offset_of plant plan.frame.0 plan w.anchor e is) ∙ here) in
     let after : HasOffset plant (alone plant other).blocks plan.frame.0 w.anchor x =
-        λ e is. same_Some e.send_offset x (sym (offset_of plant plan.frame.0 other w.anchor e is) ∙ sym agree ∙ here) in
+    λ e is. same_Some e.send_offset x (sym (offset_of plant plan.frame.0 other w.anchor e is) ∙ sym agree ∙ here) in
     let (v, now, shifted) = slides plant (alone plant plan).blocks (alone plant other).blocks plan.frame.0 w.anchor x x
     (twins_of plant parents demand ratio phase plan other first second) before after device w refl sends in
     subst (HasWindow (alone plant other) plan.frame.0 device) (sym (same_window x w v shifted)) now

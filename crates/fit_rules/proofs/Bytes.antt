@@ -1,6 +1,6 @@
 -- Numbers with the same bits are one.
-use Rattle.std.proofs.Common.{◌≡◌, ℕ, ◌<◌, ◌/◌, ◌^◌, ◌↔◌, inl, inr, sym, ◌∙◌, arith}
-use Rattle.std.specs.Prelude.{IsBitSet, bit_and}
+use Rattle.std.proofs.Common.{◌≡◌, ℕ, ◌<◌, ◌↔◌, inl, inr, sym, ◌∙◌, arith}
+use Rattle.std.specs.Prelude.{IsBitSet}
 use Rattle.std.specs.Int.{bit_at}
 use Rattle.std.proofs.lemmas.Bool.{cases_eq}
 use Rattle.std.proofs.lemmas.Nat.{bit_set_by_shift}
@@ -15,7 +15,7 @@ set_at n k one = (bit_set_by_shift n k).0 (shr_and_one n k ∙ one)
 both_or_neither : (a b : ℕ) → a < 2 → b < 2 → (a ≡ 1 → b ≡ 1) → (b ≡ 1 → a ≡ 1) → a ≡ b
 both_or_neither a b small also to from = elim (cases_eq a 1) [
   | inl one ↦ one ∙ sym (to one)
-  | inr other ↦ elim (cases_eq b 1) [ | inl one ↦ from one ∙ sym one | inr neither ↦ omega arith ]
+  | inr other ↦ elim (cases_eq b 1) [ inl one ↦ from one ∙ sym one | inr neither ↦ omega arith ]
 ]
 
 pub same_bytes : (n m : ℕ) → ((k : ℕ) → IsBitSet n k ↔ IsBitSet m k) → n ≡ m

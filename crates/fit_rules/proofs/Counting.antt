@@ -1,6 +1,6 @@
 -- A rising list of numbers, each in another list, is no longer than that.
-use Rattle.std.proofs.Common.{◌≡◌, ◌≢◌, ℕ, zero, suc, ◌+◌, ◌<◌, ◌≤◌, List, [], ◌∷◌, Some, length, slice_get, sym, ◌∙◌, ap, subst, arith, refl}
-use Rattle.std.specs.Prelude.{AllPairs, slice_index_or}
+use Rattle.std.proofs.Common.{◌≡◌, ◌≢◌, ℕ, zero, suc, ◌+◌, ◌<◌, ◌≤◌, List, [], ◌∷◌, Some, length, slice_get, sym, ◌∙◌, subst, arith, refl}
+use Rattle.std.specs.Prelude.{AllPairs}
 use Rattle.std.proofs.lemmas.Option.{same_Some, slice_get_within, get_or_from_slice_get}
 use Rattle.fit_rules.proofs.Entries.{no_entry}
 
@@ -30,8 +30,8 @@ no_longer (x ∷ xs) ys rising among =
     let (m, at) = among 0 x refl in
     let rest = no_longer xs (without ys m) (λ i j d less within. rising (suc i) (suc j) d (omega arith) (omega arith))
     (λ n z is.
-      let above : x < z =
-          subst (λ y. x < y) (get_or_from_slice_get xs n z 0 is) (rising 0 (suc n) 0 (omega arith) (omega (arith, slice_get_within xs n z is))) in
-      let (k, there) = among (suc n) z is in
-      kept_without ys k m z x there at (λ same. absurd (omega arith))) in
+    let above : x < z =
+    subst (λ y. x < y) (get_or_from_slice_get xs n z 0 is) (rising 0 (suc n) 0 (omega arith) (omega (arith, slice_get_within xs n z is))) in
+    let (k, there) = among (suc n) z is in
+    kept_without ys k m z x there at (λ same. absurd (omega arith))) in
     omega (arith, rest, length-without ys m x at)

@@ -1,30 +1,27 @@
 -- V2 to V6 and V9 of first fit's bundles.
-use Rattle.std.proofs.Common.{◌≡◌, ◌≢◌, ℕ, zero, suc, ◌+◌, ◌*◌, ◌<◌, ◌≤◌, ◌⊎◌, inl, inr, List, [], ◌∷◌, Option, Some, None, length, slice_get, option_map, sym, ◌∙◌, ap, subst, arith, refl}
-use Rattle.std.specs.Prelude.{take, Contains, IsSome, IsBitSet, slice_index_or, slice_set}
+use Rattle.std.proofs.Common.{◌≡◌, ◌≢◌, ℕ, ◌+◌, ◌*◌, ◌≤◌, ◌⊎◌, inl, inr, List, Option, Some, None, slice_get, option_map, sym, ◌∙◌, ap, subst, arith, refl}
+use Rattle.std.specs.Prelude.{take, Contains, IsSome, IsBitSet, slice_set}
 use Rattle.std.proofs.lemmas.Bool.{cases_order}
 use Rattle.std.proofs.lemmas.List.{set-get_or}
 use Rattle.std.proofs.lemmas.Option.{same_Some, slice_get_within}
-use Rattle.irt_base.specs.Cycle.{cycle_time, guard_time, wire_time, SharesCycle}
-use Rattle.irt_base.specs.Wiring.{peer_of, hop_of}
+use Rattle.irt_base.specs.Cycle.{cycle_time, guard_time, wire_time}
+use Rattle.irt_base.specs.Wiring.{hop_of}
 use Rattle.irt_base.specs.declared.blocks.Bundle.{Bundle}
 use Rattle.irt_base.specs.declared.blocks.Entry.{Entry}
-use Rattle.irt_base.specs.declared.numbers.DevId.{DevId}
 use Rattle.irt_base.specs.declared.numbers.FrameId.{FrameId}
-use Rattle.irt_base.specs.declared.numbers.PortNo.{PortNo}
 use Rattle.irt_base.specs.declared.plants.Demand.{Demand}
 use Rattle.irt_base.specs.declared.plants.Device.{Device}
 use Rattle.irt_base.specs.declared.plants.Plant.{Plant}
 use Rattle.irt_route.specs.Routes.{RouteTables}
-use Rattle.irt_route.specs.Trees.{parent_at}
-use Rattle.plan_rules.specs.Frames.{IsTreeAt, AgreesWithDemand, IsAsDemanded, HasNoIdleOffset, ForwardsLateEnough, KeepsApart, EndsInCycle, IsForwarded, IsSending, IsBefore}
+use Rattle.plan_rules.specs.Frames.{IsTreeAt, AgreesWithDemand, HasNoIdleOffset, ForwardsLateEnough, KeepsApart, EndsInCycle, IsForwarded}
 use Rattle.plan_rules.specs.Plan.{setup_of}
 use Rattle.plan_rules.specs.SendWindow.{SendWindow, HasWindow, slack_time}
-use Rattle.plan_rules.specs.Tree.{demand_of, Consumes, IsReached, here, through, IsReceiver, IsTreeEntry, IsInTree}
-use Rattle.plan_rules.specs.Way.{Setup, entry_at, Leaves, IsAnchor, IsParent, IsAbsolute}
+use Rattle.plan_rules.specs.Tree.{Consumes, IsReached, here, through, IsReceiver, IsTreeEntry}
+use Rattle.plan_rules.specs.Way.{entry_at, Leaves, IsParent}
 use Rattle.plan_rules.specs.declared.place.Place.{Place}
 use Rattle.fit_rules.specs.declared.frame_plan.FramePlan.{FramePlan}
-use Rattle.fit_rules.specs.Shape.{alone, entry_of, moved, with_offset, IsOn, IsSentBy, IsEntryOf, IsRatioFor, HasShape}
-use Rattle.fit_rules.specs.Fit.{IsUsing, HasRoom, IsClear, IsReady, IsFitted, end_time}
+use Rattle.fit_rules.specs.Shape.{alone, entry_of, moved, with_offset, IsOn, IsSentBy, HasShape}
+use Rattle.fit_rules.specs.Fit.{IsUsing, HasRoom, IsClear, IsReady, end_time}
 use Rattle.fit_rules.specs.Order.{IsDemandAt, parents_of}
 use Rattle.fit_rules.proofs.Alike.{anchor_entry}
 use Rattle.fit_rules.proofs.Entries.{entry_from}
@@ -83,7 +80,7 @@ received_by plant routes plans bundles whole plan placed s device e is received 
       from.0.0,
       from.1.0,
       parent_merged plant routes plans bundles whole plan placed s.demand.frame.0 (frame_named plant routes plan s) device e from.0.0 from.1.0
-      (parent_of plant (parents_of routes s.index) s.demand routed s.ratio s.phase plan s.shape device e from is at),
+          (parent_of plant (parents_of routes s.index) s.demand routed s.ratio s.phase plan s.shape device e from is at),
     )
 
 sent_on : (plant : Plant) (routes : RouteTables) (plans : List FramePlan) (bundles : List Bundle) → IsWhole plant routes plans bundles →
@@ -117,7 +114,7 @@ tree_entry plant routes plans bundles whole plan placed s device e is =
       consumed = own.kept;
       used = used_somehow plant routes plan s device e is (goes_on plant (parents_of routes s.index) s.demand routed device own.on);
       reached = reached_merged plant routes plans bundles whole plan placed s.demand.frame.0 (frame_named plant routes plan s) s.demand.provider.0 device
-      (reached plant (parents_of routes s.index) s.demand routed s.ratio s.phase plan s.shape device own.on);
+          (reached plant (parents_of routes s.index) s.demand routed s.ratio s.phase plan s.shape device own.on);
     }
 
 -- each demand is placed
@@ -180,7 +177,7 @@ demand_holds plant routes plans bundles whole at demand own e found provides is 
     let same = same_plan plant routes whole.are.rules plans whole.fit also.plan has.plan also.placed has.placed (also.named ∙ sym has.named) in
     let s = shaped plant routes plans bundles whole has.plan has.placed in
     let demands : s.demand ≡ demand = same_Some s.demand demand
-        (sym (demand_found plant whole.are.rules s.index at.frame s.demand s.there (sym (frame_named plant routes has.plan s) ∙ has.named)) ∙ found) in
+    (sym (demand_found plant whole.are.rules s.index at.frame s.demand s.there (sym (frame_named plant routes has.plan s) ∙ has.named)) ∙ found) in
     let first = s.shape.each at.device.0 e has.there in
     let second = s.shape.each demand.provider.0 own (ap (λ (p : FramePlan). entry_of p demand.provider.0) (sym same) ∙ also.there) in record {
       length = first.length ∙ ap (λ (d : Demand). d.length) demands;
@@ -281,7 +278,7 @@ pub end_holds : (plant : Plant) (routes : RouteTables) (plans : List FramePlan) 
 end_holds plant routes plans bundles whole at e w hop sending hops =
     let own = sent_alone plant routes plans bundles whole at.device.0 at.port at.frame e w sending in
     let ends : w.hi + wire_time e.data_length + slack_time plant.window at.device.0 w.anchor ≤ plant.red_max =
-        red_ends plant routes plans bundles whole own.plan own.placed at.device.0 at.port e w own.sends in
+    red_ends plant routes plans bundles whole own.plan own.placed at.device.0 at.port e w own.sends in
     summed w.hi (wire_time e.data_length) _ plant.red_max hop (guard_time plant.window) (cycle_time plant.factor) ends
     (hop_fits plant whole.are.rules at.device.0 at.port hop hops)
   where

@@ -1,24 +1,19 @@
 -- V1, V11, V12 and V15 of first fit's bundles.
-use Rattle.std.proofs.Common.{◌≡◌, ℕ, ◌+◌, ◌<◌, ◌≤◌, List, Option, Some, None, length, slice_get, sym, ◌∙◌, ap, subst, arith, refl}
-use Rattle.std.proofs.lemmas.Option.{same_Some, slice_get_within}
+use Rattle.std.proofs.Common.{◌≡◌, ℕ, ◌<◌, ◌≤◌, List, Some, length, slice_get, sym, ◌∙◌, ap, subst, arith}
+use Rattle.std.proofs.lemmas.Option.{slice_get_within}
 use Rattle.irt_base.specs.Cycle.{budget_time}
 use Rattle.irt_base.specs.Valid.{IsWithin}
 use Rattle.irt_base.specs.declared.limits.TheConstants.{MIN_FRAME, MAX_FRAME, MAX_SEND, MAX_TIMEOUT}
 use Rattle.irt_base.specs.declared.blocks.Bundle.{Bundle}
-use Rattle.irt_base.specs.declared.blocks.Entry.{Entry}
 use Rattle.irt_base.specs.declared.blocks.GlobalBlock.{GlobalBlock}
 use Rattle.irt_base.specs.declared.blocks.SyncBlock.{SyncBlock}
 use Rattle.irt_base.specs.declared.plants.Device.{Device}
 use Rattle.irt_base.specs.declared.plants.Plant.{Plant}
 use Rattle.irt_route.specs.Routes.{RouteTables}
-use Rattle.plant_rules.specs.Clocks.{IsDistance}
-use Rattle.plant_rules.specs.Meets.{MeetsRules}
 use Rattle.plan_rules.specs.Headers.{RepeatsPlant, SharesRange, KeepsClock}
 use Rattle.plan_rules.specs.Periods.{IsRedFrame}
-use Rattle.plan_rules.specs.Plan.{setup_of}
 use Rattle.plan_rules.specs.declared.place.Place.{Place}
 use Rattle.fit_rules.specs.declared.frame_plan.FramePlan.{FramePlan}
-use Rattle.fit_rules.specs.Blocks.{sync_of, global_of}
 use Rattle.fit_rules.proofs.Merged.{IsWhole, shaped, held_at, from_blocks}
 use Rattle.fit_rules.proofs.Placing.{valid_at}
 

@@ -1,6 +1,6 @@
 -- Links of a plant that meets its rules: their ports are there, and a hop after the red limit ends in the cycle.
-use Rattle.std.proofs.Common.{◌≡◌, ℕ, zero, suc, ◌+◌, ◌≤◌, Bool, true, false, List, [], ◌∷◌, Option, Some, None, sym, ◌∙◌, ap, ap₂, subst, refl, arith, find, option_map, slice_get, length, cond, true≢false, leb, inl, inr}
-use Rattle.std.specs.Prelude.{is_some, ◌==◌}
+use Rattle.std.proofs.Common.{◌≡◌, ℕ, ◌+◌, ◌≤◌, Bool, true, false, List, [], ◌∷◌, Option, Some, None, sym, ◌∙◌, ap₂, subst, refl, find, option_map, slice_get, length, true≢false, leb, inl, inr}
+use Rattle.std.specs.Prelude.{◌==◌}
 use Rattle.std.specs.List.{AllByRecursion}
 use Rattle.std.specs.Option.{option_map_or}
 use Rattle.std.proofs.lemmas.Bool.{cases_Bool, and_parts, or_cases, eqb-true, both_ways, cond-true, cond-false, leb-true}
@@ -8,14 +8,13 @@ use Rattle.std.proofs.lemmas.Option.{same_Some}
 use Rattle.irt_base.specs.Cycle.{cycle_time, guard_time}
 use Rattle.irt_base.specs.Valid.{IsWithin}
 use Rattle.irt_base.specs.Wiring.{begins_at, ends_at, touches, link_at, far_end, peer_of, hop_of, hop_over, tx_delay, rx_delay}
-use Rattle.irt_base.specs.declared.limits.TheConstants.{MAX_PORTS}
 use Rattle.irt_base.specs.declared.numbers.DevId.{DevId}
 use Rattle.irt_base.specs.declared.numbers.PortNo.{PortNo}
 use Rattle.irt_base.specs.declared.plants.Device.{Device}
 use Rattle.irt_base.specs.declared.plants.Link.{Link}
 use Rattle.irt_base.specs.declared.plants.Plant.{Plant}
 use Rattle.plant_rules.specs.Words.{has_port, is_within, hop_there, hop_back}
-use Rattle.plant_rules.specs.Meets.{HasPort, IsDevice, IsLink, MeetsRules}
+use Rattle.plant_rules.specs.Meets.{HasPort, IsLink, MeetsRules}
 use Rattle.fit_rules.proofs.Entries.{no_entry}
 
 -- what is found passes the test, and has what all have
@@ -87,7 +86,7 @@ hop_fits plant rules device port hop is =
           let (one, two) = begins device port l so in
           let far = far_of_begin device port l so in
           let same : hop_there plant l ≡ hop =
-              (λ i. tx_delay plant (one i) (two i) + l.delay + rx_delay plant ((sym far) i).0.0 ((sym far) i).1.0) ∙ long in
+          (λ i. tx_delay plant (one i) (two i) + l.delay + rx_delay plant ((sym far) i).0.0 ((sym far) i).1.0) ∙ long in
           subst (λ n. plant.red_max + n + guard_time plant.window ≤ cycle_time plant.factor) same link.there
       | inr other ↦
           elim (or_cases (begins_at device port l) (ends_at device port l) touched) [
@@ -96,7 +95,7 @@ hop_fits plant rules device port hop is =
                 let (one, two) = ends device port l so in
                 let far = far_of_end device port l other in
                 let same : hop_back plant l ≡ hop =
-                    (λ i. tx_delay plant (one i) (two i) + l.delay + rx_delay plant ((sym far) i).0.0 ((sym far) i).1.0) ∙ long in
+                (λ i. tx_delay plant (one i) (two i) + l.delay + rx_delay plant ((sym far) i).0.0 ((sym far) i).1.0) ∙ long in
                 subst (λ n. plant.red_max + n + guard_time plant.window ≤ cycle_time plant.factor) same link.back
           ]
     ]

@@ -1,30 +1,27 @@
 -- The blocks hold the placed frames: each frame has in them what it has alone.
-use Rattle.std.proofs.Common.{◌≡◌, ℕ, zero, suc, ◌<◌, ◌≤◌, ◌⊎◌, inl, inr, true, List, [], ◌∷◌, Option, Some, None, length, slice_get, map, find, option_map, option_and_then, sym, ◌∙◌, ap, subst, arith, refl}
-use Rattle.std.specs.Prelude.{◌==◌, take, Contains, AllPairs, slice_index_or}
+use Rattle.std.proofs.Common.{◌≡◌, ℕ, ◌<◌, ◌≤◌, inl, inr, true, List, Option, Some, None, length, slice_get, map, find, option_map, option_and_then, sym, ◌∙◌, ap, subst, arith, refl}
+use Rattle.std.specs.Prelude.{◌==◌, take, Contains, slice_index_or}
 use Rattle.std.proofs.lemmas.Bool.{cases_order, eq-eqb, eqb-true, cases_lt}
 use Rattle.std.proofs.lemmas.List.{get_or_past}
 use Rattle.std.proofs.lemmas.Option.{same_Some, slice_get_within, get_or_from_slice_get, slice_get-map}
 use Rattle.irt_base.specs.Valid.{IsWithin}
-use Rattle.irt_base.specs.Wiring.{peer_of}
 use Rattle.irt_base.specs.declared.blocks.Bundle.{Bundle}
 use Rattle.irt_base.specs.declared.blocks.Entry.{Entry}
 use Rattle.irt_base.specs.declared.blocks.FrameBlock.{FrameBlock}
-use Rattle.irt_base.specs.declared.numbers.DevId.{DevId}
 use Rattle.irt_base.specs.declared.numbers.FrameId.{FrameId}
 use Rattle.irt_base.specs.declared.plants.Demand.{Demand}
 use Rattle.irt_base.specs.declared.plants.Device.{Device}
 use Rattle.irt_base.specs.declared.plants.Plant.{Plant}
 use Rattle.irt_route.specs.Routes.{RouteTables, IsRoutesOf}
-use Rattle.irt_route.specs.Walks.{HasHops}
 use Rattle.plant_rules.specs.Meets.{MeetsRules}
 use Rattle.plan_rules.specs.Frames.{IsSending, IsForwarded}
 use Rattle.plan_rules.specs.Plan.{setup_of}
 use Rattle.plan_rules.specs.SendWindow.{SendWindow, HasWindow, at_anchor, behind}
-use Rattle.plan_rules.specs.Way.{Setup, entry_at}
+use Rattle.plan_rules.specs.Way.{entry_at}
 use Rattle.fit_rules.specs.declared.frame_plan.FramePlan.{FramePlan}
 use Rattle.fit_rules.specs.Shape.{alone, entry_of, IsRatioFor, HasShape}
-use Rattle.fit_rules.specs.Fit.{IsUsing, IsFirstFit}
-use Rattle.fit_rules.specs.Order.{HasFarthest, IsEarlier, IsDemandAt, IsOrder, parents_of, IsPlacedAt, ArePlaced, IsFit}
+use Rattle.fit_rules.specs.Fit.{IsUsing}
+use Rattle.fit_rules.specs.Order.{HasFarthest, IsEarlier, IsDemandAt, IsOrder, parents_of, IsPlacedAt, IsFit}
 use Rattle.fit_rules.specs.Blocks.{IsBundleOf, AreBundlesOf}
 use Rattle.fit_rules.proofs.Alike.{entry_frame, stands_alone}
 use Rattle.fit_rules.proofs.Entries.{setup, no_entry, entry_from}
@@ -32,8 +29,6 @@ use Rattle.fit_rules.proofs.Finding.{bound, found_at, find_one, same_demand}
 use Rattle.fit_rules.proofs.Known.{Known}
 use Rattle.fit_rules.proofs.Links.{mapped}
 use Rattle.fit_rules.proofs.Lists.{contains_at, place_of, some_at}
-use Rattle.fit_rules.proofs.Placing.{routed_at}
-use Rattle.fit_rules.proofs.Routed.{IsRouted}
 
 -- first fit's bundles, with all that they come from
 pub record IsWhole (plant : Plant) (routes : RouteTables) (plans : List FramePlan) (bundles : List Bundle) : Type 0 where
@@ -75,7 +70,7 @@ not_earlier plant d earlier =
     let up = one_farthest plant d earlier.hops earlier.other_hops earlier.farthest earlier.other_farthest in
     elim earlier.before [
       | inl less ↦ omega arith
-      | inr tie ↦ elim tie.1 [ | inl longer ↦ omega arith | inr also ↦ omega (arith, also.1) ]
+      | inr tie ↦ elim tie.1 [ inl longer ↦ omega arith | inr also ↦ omega (arith, also.1) ]
     ]
 
 order_sorted : (plant : Plant) (order : List ℕ) → IsOrder plant order → (n m i j : ℕ) (d e : Demand) → n < m → slice_get order n ≡ Some i → slice_get order m ≡ Some j →
@@ -157,7 +152,7 @@ to_blocks plant routes plans bundles whole plan placed device e is =
     let (n, stands) = place_of b.frames.entries e (own.entries.all plan e placed is) in
     let named = ap (λ (f : FrameId). f.0) (entry_frame plant (parents_of routes s.index) s.demand s.ratio s.phase plan s.shape device e is) in
     let one = λ (m : ℕ) (g : Entry) (there : slice_get b.frames.entries m ≡ Some g) (passes : (g.frame.0 == plan.frame.0) ≡ true).
-        same_there plant routes plans bundles whole plan placed device e is g (own.entries.only g (contains_at b.frames.entries m g there)) (eqb-true g.frame.0 plan.frame.0 passes) in
+    same_there plant routes plans bundles whole plan placed device e is g (own.entries.only g (contains_at b.frames.entries m g there)) (eqb-true g.frame.0 plan.frame.0 passes) in
     ap (option_and_then (λ (f : FrameBlock). find (λ (x : Entry). x.frame.0 == plan.frame.0) f.entries))
     (slice_get-map (λ (x : Bundle). x.frames) bundles device ∙ ap (option_map (λ (x : Bundle). x.frames)) at)
     ∙ find_one (λ (x : Entry). x.frame.0 == plan.frame.0) b.frames.entries n e stands (eq-eqb e.frame.0 plan.frame.0 named) one

@@ -1,26 +1,23 @@
 -- A demand's frame has at most one plan in a phase, and one first fit.
-use Rattle.std.proofs.Common.{◌≡◌, ◌≢◌, ℕ, zero, suc, ◌+◌, ◌<◌, ◌≤◌, ◌⊎◌, inl, inr, List, Option, Some, None, length, sym, ◌∙◌, ap, subst, arith, refl}
-use Rattle.std.specs.Prelude.{slice_index_or, option_map}
+use Rattle.std.proofs.Common.{◌≡◌, ℕ, ◌+◌, ◌≤◌, inl, inr, List, Option, Some, None, sym, ◌∙◌, ap, subst, arith, refl}
+use Rattle.std.specs.Prelude.{option_map}
 use Rattle.std.proofs.lemmas.Bool.{cases_order, cases_eq}
 use Rattle.std.proofs.lemmas.List.{ext_get_or}
 use Rattle.std.proofs.lemmas.Option.{same_Some}
 use Rattle.irt_base.specs.Cycle.{guard_time}
 use Rattle.irt_base.specs.Wiring.{hop_of}
 use Rattle.irt_base.specs.declared.blocks.Entry.{Entry}
-use Rattle.irt_base.specs.declared.numbers.FrameId.{FrameId}
 use Rattle.irt_base.specs.declared.plants.Demand.{Demand}
-use Rattle.irt_base.specs.declared.plants.Device.{Device}
 use Rattle.irt_base.specs.declared.plants.Plant.{Plant}
 use Rattle.irt_route.specs.Trees.{Parents}
-use Rattle.plan_rules.specs.Way.{Setup, entry_at, IsAnchor, IsParent}
+use Rattle.plan_rules.specs.Way.{entry_at, IsAnchor, IsParent}
 use Rattle.plan_rules.specs.Tree.{IsReached, here, through}
 use Rattle.plan_rules.specs.SendWindow.{SendWindow, HasWindow, at_anchor, behind}
-use Rattle.plan_rules.specs.Frames.{IsForwarded}
 use Rattle.fit_rules.specs.declared.frame_plan.FramePlan.{FramePlan}
 use Rattle.fit_rules.specs.Shape.{alone, entry_of, IsRatioFor, HasShape}
-use Rattle.fit_rules.specs.Fit.{IsLeastFrom, IsClearAt, IsReady, IsForwardReady, IsFitted, IsInPhase, IsLastEnd, IsFirstFit, IsNotWorse}
+use Rattle.fit_rules.specs.Fit.{IsLeastFrom, IsClearAt, IsReady, IsFitted, IsInPhase, IsLastEnd, IsFirstFit, IsNotWorse}
 use Rattle.fit_rules.specs.Moves.{IsAlike, offset_at, AgreeAbove}
-use Rattle.fit_rules.proofs.Alike.{clear_alike, ready_alike, twin_of, stands_alone, same_frame, anchor_entry}
+use Rattle.fit_rules.proofs.Alike.{clear_alike, ready_alike, twin_of, stands_alone, same_frame}
 use Rattle.fit_rules.proofs.Entries.{no_entry, entry_from}
 use Rattle.fit_rules.proofs.Routed.{IsRouted, reached}
 use Rattle.fit_rules.proofs.Sliding.{alike_anchor, flipped}
@@ -32,7 +29,6 @@ least_is_one P Q from x y to back a b = elim (cases_order x y) [
   | inr (inl less) ↦ absurd (b.least x a.reached less (to x a.holds))
   | inr (inr more) ↦ absurd (a.least y b.reached more (back y b.holds))
 ]
-
 
 same_ready : (plant : Plant) (parents : Parents) (demand : Demand) → IsRouted plant parents demand → (plan : FramePlan) (device : ℕ) (e : Entry) (r s : ℕ) →
     IsReady plant plan device e r → IsReady plant plan device e s → r ≡ s
@@ -141,12 +137,12 @@ same_offset plant parents placed demand ratio phase plan other pair device e g a
       let agree = agree_above plant parents placed demand ratio phase plan other pair demand.provider.0 device refl
       (reached plant parents demand pair.routed ratio phase plan pair.first device on) in
       let idle : ¬ IsAnchor (alone plant plan) device e =
-          λ anchor. differ (same_Some e.send_offset g.send_offset (sym (ap (option_map (λ (x : Entry). x.send_offset)) is)
-          ∙ offset_same plant parents placed demand ratio phase plan other pair device e is anchor
-          (agree e (stands_alone plant parents demand ratio phase plan pair.first device e is))
-          ∙ ap (option_map (λ (x : Entry). x.send_offset)) at)) in
+      λ anchor. differ (same_Some e.send_offset g.send_offset (sym (ap (option_map (λ (x : Entry). x.send_offset)) is)
+      ∙ offset_same plant parents placed demand ratio phase plan other pair device e is anchor
+      (agree e (stands_alone plant parents demand ratio phase plan pair.first device e is))
+      ∙ ap (option_map (λ (x : Entry). x.send_offset)) at)) in
       let also : ¬ IsAnchor (alone plant other) device g =
-          λ anchor. idle (alike_anchor plant (alone plant other).blocks (alone plant plan).blocks device g e (flipped e g alike) anchor) in
+      λ anchor. idle (alike_anchor plant (alone plant other).blocks (alone plant plan).blocks device g e (flipped e g alike) anchor) in
       pair.first.idle device e is idle ∙ sym (pair.second.idle device g at also)
 ]
 
@@ -199,8 +195,8 @@ one_in_phase plant parents demand routed placed phase plan other a b =
 
 phases_agree : (end phase other_end other_phase : ℕ) → IsNotWorse end phase other_end other_phase → IsNotWorse other_end other_phase end phase → other_phase ≡ phase
 phases_agree end phase other_end other_phase a b = elim a [
-  | inl less ↦ elim b [ | inl more ↦ absurd (omega arith) | inr tie ↦ absurd (omega (arith, tie.0)) ]
-  | inr tie ↦ elim b [ | inl more ↦ absurd (omega (arith, tie.0)) | inr again ↦ omega (arith, tie.1, again.1) ]
+  | inl less ↦ elim b [ inl more ↦ absurd (omega arith) | inr tie ↦ absurd (omega (arith, tie.0)) ]
+  | inr tie ↦ elim b [ inl more ↦ absurd (omega (arith, tie.0)) | inr again ↦ omega (arith, tie.1, again.1) ]
 ]
 
 -- A demand has at most one first fit beside the frames placed.

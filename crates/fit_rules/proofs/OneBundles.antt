@@ -1,16 +1,13 @@
 -- The blocks of placed frames are one.
-use Rattle.std.proofs.Common.{◌≡◌, ◌≢◌, ℕ, zero, suc, ◌+◌, ◌<◌, ◌≤◌, ◌⊎◌, inl, inr, List, [], ◌∷◌, Option, Some, None, length, slice_get, sym, ◌∙◌, ap, subst, arith, refl}
-use Rattle.std.specs.Prelude.{Contains, AllPairs, slice_index_or, map}
+use Rattle.std.proofs.Common.{◌≡◌, ℕ, zero, suc, ◌+◌, ◌<◌, ◌≤◌, inl, inr, List, [], ◌∷◌, Option, Some, None, length, slice_get, sym, ◌∙◌, ap, subst, arith, refl}
+use Rattle.std.specs.Prelude.{AllPairs, slice_index_or}
 use Rattle.std.proofs.lemmas.Bool.{cases_order}
-use Rattle.std.proofs.lemmas.List.{length-map, same_lists}
+use Rattle.std.proofs.lemmas.List.{length-map}
 use Rattle.std.proofs.lemmas.List.Kept.{AllPairs-from_increasing}
 use Rattle.std.proofs.lemmas.Option.{same_Some, slice_get_within, get_or_from_slice_get, slice_get-map, slice_get-get_or}
 use Rattle.irt_base.specs.Valid.{frames_of}
-use Rattle.irt_base.specs.declared.limits.TheConstants.{PHASES}
-use Rattle.irt_base.specs.declared.blocks.Assignment.{Assignment}
 use Rattle.irt_base.specs.declared.blocks.Bundle.{Bundle}
 use Rattle.irt_base.specs.declared.blocks.Entry.{Entry}
-use Rattle.irt_base.specs.declared.blocks.FrameBlock.{FrameBlock}
 use Rattle.irt_base.specs.declared.blocks.Period.{Period}
 use Rattle.irt_base.specs.declared.blocks.PeriodBlock.{PeriodBlock}
 use Rattle.irt_base.specs.declared.blocks.PhasePair.{PhasePair}
@@ -18,9 +15,9 @@ use Rattle.irt_base.specs.declared.blocks.PortPeriods.{PortPeriods}
 use Rattle.irt_base.specs.declared.plants.Device.{Device}
 use Rattle.irt_base.specs.declared.plants.Plant.{Plant}
 use Rattle.fit_rules.specs.declared.frame_plan.FramePlan.{FramePlan}
-use Rattle.fit_rules.specs.Blocks.{AreEntries, IsGreatest, IsSentEnd, IsReceivedEnd, IsTxPeriod, IsRxPeriod, IsPhase, AreNumbered, ArePortPeriods, ArePeriods, IsBundleOf, AreBundlesOf}
+use Rattle.fit_rules.specs.Blocks.{AreEntries, IsGreatest, IsSentEnd, IsReceivedEnd, IsTxPeriod, IsRxPeriod, IsPhase, ArePortPeriods, ArePeriods, IsBundleOf, AreBundlesOf}
 use Rattle.fit_rules.proofs.Lists.{contains_at, place_of, some_at}
-use Rattle.fit_rules.proofs.Sorted.{IsAt, IsStrict, one_sorted}
+use Rattle.fit_rules.proofs.Sorted.{IsStrict, one_sorted}
 
 -- two lists with the same items at the same places
 same_items : {X : Type 0} (xs ys : List X) → length xs ≡ length ys → ((n : ℕ) (x y : X) → slice_get xs n ≡ Some x → slice_get ys n ≡ Some y → x ≡ y) → xs ≡ ys
@@ -58,7 +55,7 @@ same_entries plans device xs ys a b =
     (λ n e is. let (plan, placed, there) = b.only e (contains_at ys n e is) in place_of xs e (a.all plan e placed there))
 
 greatest_below : (Holds : ℕ → Type 0) (n m : ℕ) → IsGreatest Holds n → IsGreatest Holds m → n ≤ m
-greatest_below Holds n m a b = elim a.some [ | inl some ↦ b.bound n some | inr (none, off) ↦ omega arith ]
+greatest_below Holds n m a b = elim a.some [ inl some ↦ b.bound n some | inr (none, off) ↦ omega arith ]
 
 one_greatest : (Holds : ℕ → Type 0) (n m : ℕ) → IsGreatest Holds n → IsGreatest Holds m → n ≡ m
 one_greatest Holds n m a b = omega (arith, greatest_below Holds n m a b, greatest_below Holds m n b a)
@@ -109,7 +106,7 @@ not_less plant plans device port p q are k a b agree is at less =
     let qk = are.its.each k b at in
     let mine : pj.periods ≡ pk.periods = same_Some pj.periods pk.periods (sym pj.named ∙ ap (slice_get p.assignments) same ∙ pk.named) in
     let its : qj.periods ≡ qk.periods =
-        sym (same_assignment plant plans device port p q j c before.pair pj qj) ∙ mine ∙ same_assignment plant plans device port p q k a b pk qk in
+    sym (same_assignment plant plans device port p q j c before.pair pj qj) ∙ mine ∙ same_assignment plant plans device port p q k a b pk qk in
     let numbers : before.pair.tx ≡ b.tx = are.its.numbered.differ before.pair.tx b.tx qk.periods (qj.named ∙ ap Some its) qk.named in
     omega (arith, before.has)
 
@@ -131,9 +128,9 @@ same_phases : (plant : Plant) (plans : List FramePlan) (device port : ℕ) (p q 
 same_phases plant plans device port p q are =
     same_items p.phases q.phases (are.mine.count ∙ sym are.its.count)
     (λ k a b is at.
-      let tx = agree_below plant plans device port p q are (suc k) k a b (omega arith) is at in
-      let rx = (are.mine.each k a is).one ∙ tx ∙ sym (are.its.each k b at).one in
-      λ i. record { tx = tx i; rx = rx i })
+    let tx = agree_below plant plans device port p q are (suc k) k a b (omega arith) is at in
+    let rx = (are.mine.each k a is).one ∙ tx ∙ sym (are.its.each k b at).one in
+    λ i. record { tx = tx i; rx = rx i })
 
 no_more : (plant : Plant) (plans : List FramePlan) (device port : ℕ) (p q : PortPeriods) → AreBoth plant plans device port p q → (i : ℕ) → i < length p.assignments → i < length q.assignments
 no_more plant plans device port p q are i less =
@@ -151,15 +148,18 @@ same_ports plant plans device port p q are =
     let phases = same_phases plant plans device port p q are in
     let back = both_back plant plans device port p q are in
     let long : length p.assignments ≡ length q.assignments =
-        omega (arith, as_long (length p.assignments) (length q.assignments) (no_more plant plans device port p q are),
-        as_long (length q.assignments) (length p.assignments) (no_more plant plans device port q p back)) in
+    omega (
+      arith,
+      as_long (length p.assignments) (length q.assignments) (no_more plant plans device port p q are),
+      as_long (length q.assignments) (length p.assignments) (no_more plant plans device port q p back),
+    ) in
     let assignments = same_items p.assignments q.assignments long (λ i a b is at.
-        let use_ = are.mine.numbered.used i (slice_get_within p.assignments i a is) in
-        let mine = are.mine.each use_.earlier use_.pair use_.there in
-        let its = are.its.each use_.earlier use_.pair (ap (λ ps. slice_get ps use_.earlier) (sym phases) ∙ use_.there) in
-        same_Some a mine.periods (sym is ∙ ap (slice_get p.assignments) (sym use_.has) ∙ mine.named)
-        ∙ same_assignment plant plans device port p q use_.earlier use_.pair use_.pair mine its
-        ∙ same_Some its.periods b (sym its.named ∙ ap (slice_get q.assignments) use_.has ∙ at)) in
+    let use_ = are.mine.numbered.used i (slice_get_within p.assignments i a is) in
+    let mine = are.mine.each use_.earlier use_.pair use_.there in
+    let its = are.its.each use_.earlier use_.pair (ap (λ ps. slice_get ps use_.earlier) (sym phases) ∙ use_.there) in
+    same_Some a mine.periods (sym is ∙ ap (slice_get p.assignments) (sym use_.has) ∙ mine.named)
+    ∙ same_assignment plant plans device port p q use_.earlier use_.pair use_.pair mine its
+    ∙ same_Some its.periods b (sym its.named ∙ ap (slice_get q.assignments) use_.has ∙ at)) in
     λ i. record { assignments = assignments i; phases = phases i }
 
 same_periods : (plant : Plant) (plans : List FramePlan) (device : ℕ) (d : Device) (a b : PeriodBlock) → ArePeriods plant plans device d a → ArePeriods plant plans device d b → a ≡ b
@@ -167,7 +167,7 @@ same_periods plant plans device d a b x y =
     let first = x.begin ∙ sym y.begin in
     let last = x.end ∙ sym y.end in
     let ports = same_items a.ports b.ports (x.count ∙ sym y.count)
-        (λ n p q is at. same_ports plant plans device (n + 1) p q (record { mine = x.ports n p is; its = y.ports n q at })) in
+    (λ n p q is at. same_ports plant plans device (n + 1) p q (record { mine = x.ports n p is; its = y.ports n q at })) in
     λ i. record { first = first i; last = last i; ports = ports i }
 
 same_bundle : (plant : Plant) (plans : List FramePlan) (device : ℕ) (d : Device) (a b : Bundle) → IsBundleOf plant plans device d a → IsBundleOf plant plans device d b → a ≡ b
@@ -185,5 +185,5 @@ same_bundle plant plans device d a b x y =
 pub same_bundles : (plant : Plant) (plans : List FramePlan) (xs ys : List Bundle) → AreBundlesOf plant plans xs → AreBundlesOf plant plans ys → xs ≡ ys
 same_bundles plant plans xs ys a b =
     same_items xs ys (a.count ∙ sym b.count) (λ device x y is at.
-      let (d, there) = some_at plant.devices device (omega (arith, slice_get_within xs device x is, a.count)) in
-      same_bundle plant plans device d x y (a.each device d x there is) (b.each device d y there at))
+    let (d, there) = some_at plant.devices device (omega (arith, slice_get_within xs device x is, a.count)) in
+    same_bundle plant plans device d x y (a.each device d x there is) (b.each device d y there at))

@@ -1,5 +1,5 @@
 -- First fit has one answer: one order, one list of plans, and no overrun beside it.
-use Rattle.std.proofs.Common.{◌≡◌, ℕ, zero, suc, ◌+◌, ◌<◌, ◌≤◌, ◌⊎◌, inl, inr, List, [], ◌∷◌, ◌++◌, Option, Some, None, length, slice_get, sym, ◌∙◌, ap, subst, arith, refl}
+use Rattle.std.proofs.Common.{◌≡◌, ℕ, zero, suc, ◌+◌, ◌<◌, ◌≤◌, inl, inr, List, [], ◌∷◌, ◌++◌, Some, length, slice_get, sym, ◌∙◌, ap, subst, arith, refl}
 use Rattle.std.specs.Prelude.{take, AllPairs, slice_index_or}
 use Rattle.std.proofs.lemmas.Bool.{cases_order, cases_lt}
 use Rattle.std.proofs.lemmas.List.{take_all, take_more}
@@ -12,7 +12,7 @@ use Rattle.irt_route.specs.Routes.{RouteTables, IsRoutesOf}
 use Rattle.fit_rules.specs.declared.frame_plan.FramePlan.{FramePlan}
 use Rattle.fit_rules.specs.Blocks.{AreBundlesOf, AreFirstFit}
 use Rattle.fit_rules.specs.Fit.{IsFirstFit, HasNoFit}
-use Rattle.fit_rules.specs.Order.{HasFarthest, IsEarlier, IsDemandAt, IsOrder, parents_of, IsPlacedAt, ArePlaced, IsFit, IsOverrun}
+use Rattle.fit_rules.specs.Order.{IsEarlier, IsDemandAt, IsOrder, parents_of, IsPlacedAt, ArePlaced, IsFit, IsOverrun}
 use Rattle.fit_rules.proofs.Counting.{no_longer, without, length-without, kept_without}
 use Rattle.fit_rules.proofs.Known.{Known}
 use Rattle.fit_rules.proofs.Lists.{place_of, some_at}
@@ -20,7 +20,7 @@ use Rattle.fit_rules.proofs.Merged.{one_farthest, not_earlier}
 use Rattle.fit_rules.proofs.Once.{one_first_fit}
 use Rattle.fit_rules.proofs.OneBundles.{same_bundles}
 use Rattle.fit_rules.proofs.Placing.{routed_at}
-use Rattle.fit_rules.proofs.Sorted.{IsAt, IsStrict, one_sorted}
+use Rattle.fit_rules.proofs.Sorted.{IsStrict, one_sorted}
 
 -- of two demands one alone is earlier
 one_earlier : (plant : Plant) (d e : Demand) → IsEarlier plant d e → IsEarlier plant e d → ⊥
@@ -29,12 +29,12 @@ one_earlier plant d e a b =
     let second : b.hops ≤ a.other_hops = one_farthest plant e b.hops a.other_hops b.farthest a.other_farthest in
     let third : b.other_hops ≤ a.hops = one_farthest plant d b.other_hops a.hops b.other_farthest a.farthest in
     elim a.before [
-      | inl farther ↦ elim b.before [ | inl nearer ↦ omega arith | inr tie ↦ omega (arith, tie.0) ]
+      | inl farther ↦ elim b.before [ inl nearer ↦ omega arith | inr tie ↦ omega (arith, tie.0) ]
       | inr tie ↦ elim b.before [
         | inl nearer ↦ omega (arith, tie.0)
         | inr again ↦ elim tie.1 [
-          | inl longer ↦ elim again.1 [ | inl shorter ↦ omega arith | inr same ↦ omega (arith, same.0) ]
-          | inr same ↦ elim again.1 [ | inl shorter ↦ omega (arith, same.0) | inr also ↦ omega (arith, same.1, also.1) ]
+          | inl longer ↦ elim again.1 [ inl shorter ↦ omega arith | inr same ↦ omega (arith, same.0) ]
+          | inr same ↦ elim again.1 [ inl shorter ↦ omega (arith, same.0) | inr also ↦ omega (arith, same.1, also.1) ]
         ]
       ]
     ]
@@ -71,9 +71,9 @@ order_within plant order is n index at = elim (cases_lt index (length plant.dema
   | inr past ↦
       let all = length plant.demands in
       let few = no_longer (counted 0 all) (without order n) (counted_rising 0 all) (λ i x there.
-          let (same, less) = counted_at 0 all i x there in
-          let (m, has) = place_of order x (is.all x (omega arith)) in
-          kept_without order m n x index has at (λ equal. absurd (omega arith))) in
+      let (same, less) = counted_at 0 all i x there in
+      let (m, has) = place_of order x (is.all x (omega arith)) in
+      kept_without order m n x index has at (λ equal. absurd (omega arith))) in
       absurd (omega (arith, few, length-without order n index at, length-counted 0 all, is.count))
 ]
 
@@ -116,7 +116,7 @@ same_fronts known plant routes are order ps qs a b (suc n) first second =
     let (p, is) = some_at ps n (omega arith) in
     let (q, at) = some_at qs n (omega arith) in
     let same = same_place known plant routes are order (take n ps) n p q (a n p is)
-        (subst (λ placed. IsPlacedAt plant routes order placed n q) (sym before) (b n q at)) in
+    (subst (λ placed. IsPlacedAt plant routes order placed n q) (sym before) (b n q at)) in
     let next : n + 1 ≡ suc n = omega arith in
     subst (λ m. take m ps ≡ take m qs) next (take_next ps n p is ∙ (λ i. before i ++ same i ∷ []) ∙ sym (take_next qs n q at))
 
@@ -140,9 +140,9 @@ none_after known plant routes are order ps qs a b index demand next there none m
     let same : has.index ≡ index = same_Some has.index index (sym has.next ∙ next) in
     let demands : has.demand ≡ demand = same_Some has.demand demand (sym has.there ∙ ap (slice_get plant.demands) same ∙ there) in
     let fit : IsFirstFit plant (parents_of routes index) qs demand p =
-        subst (λ d. IsFirstFit plant (parents_of routes index) qs d p) demands
-        (subst (λ i. IsFirstFit plant (parents_of routes i) qs has.demand p) same
-        (subst (λ placed. IsFirstFit plant (parents_of routes has.index) placed has.demand p) front has.fit)) in
+    subst (λ d. IsFirstFit plant (parents_of routes index) qs d p) demands
+    (subst (λ i. IsFirstFit plant (parents_of routes i) qs has.demand p) same
+    (subst (λ placed. IsFirstFit plant (parents_of routes has.index) placed has.demand p) front has.fit)) in
     none fit.phase p fit.is
 
 pub no_overrun : Known → (plant : Plant) (routes : RouteTables) → IsRoutesOf plant routes → (ps : List FramePlan) (frame : FrameId) → IsFit plant routes ps → IsOverrun plant routes frame → ⊥

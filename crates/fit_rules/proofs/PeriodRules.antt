@@ -1,10 +1,9 @@
 -- V7, V8, V10, V13 and V14 of first fit's bundles.
-use Rattle.std.proofs.Common.{◌≡◌, ℕ, zero, suc, ◌+◌, ◌-◌, ◌%◌, ◌<◌, ◌≤◌, ◌⊎◌, inl, inr, List, Option, Some, None, length, slice_get, option_map, option_and_then, sym, ◌∙◌, ap, subst, arith, refl}
+use Rattle.std.proofs.Common.{◌≡◌, ℕ, ◌+◌, ◌-◌, ◌%◌, ◌<◌, ◌≤◌, inl, inr, List, Some, slice_get, option_map, sym, ◌∙◌, ap, subst, arith, refl}
 use Rattle.std.specs.Prelude.{Contains}
 use Rattle.std.proofs.lemmas.Option.{same_Some}
-use Rattle.irt_base.specs.Cycle.{IsDue, cycle_time, guard_time, wire_time}
+use Rattle.irt_base.specs.Cycle.{cycle_time, guard_time, wire_time}
 use Rattle.irt_base.specs.Periods.{number_of, side_of, port_period, period_at}
-use Rattle.irt_base.specs.Wiring.{hop_of}
 use Rattle.irt_base.specs.declared.limits.TheConstants.{PHASES}
 use Rattle.irt_base.specs.declared.blocks.Assignment.{Assignment}
 use Rattle.irt_base.specs.declared.blocks.Bundle.{Bundle}
@@ -17,14 +16,13 @@ use Rattle.irt_base.specs.declared.blocks.Side.TheVariants.{Tx, Rx}
 use Rattle.irt_base.specs.declared.plants.Plant.{Plant}
 use Rattle.irt_route.specs.Routes.{RouteTables}
 use Rattle.plan_rules.specs.Frames.{IsSentInRed, IsReceivedInRed, IsForwarded}
-use Rattle.plan_rules.specs.Periods.{HasPeriods, KeepsRedLimit, HasOrange, KeepsOrder, AreOrdered}
+use Rattle.plan_rules.specs.Periods.{KeepsRedLimit, HasOrange, KeepsOrder}
 use Rattle.plan_rules.specs.SendWindow.{SendWindow, slack_time}
 use Rattle.plan_rules.specs.declared.place.Place.{Place}
 use Rattle.fit_rules.specs.declared.frame_plan.FramePlan.{FramePlan}
-use Rattle.fit_rules.specs.Shape.{alone, entry_of}
+use Rattle.fit_rules.specs.Shape.{alone}
 use Rattle.fit_rules.specs.Fit.{IsUsing, end_time}
-use Rattle.fit_rules.specs.Order.{parents_of}
-use Rattle.fit_rules.specs.Blocks.{IsGreatest, IsSentEnd, IsReceivedEnd, IsTxPeriod, IsRxPeriod, IsPhase, ArePortPeriods}
+use Rattle.fit_rules.specs.Blocks.{IsGreatest, IsSentEnd, IsReceivedEnd, IsTxPeriod, IsRxPeriod, ArePortPeriods}
 use Rattle.fit_rules.proofs.Entries.{entry_from}
 use Rattle.fit_rules.proofs.Finding.{bound}
 use Rattle.fit_rules.proofs.FrameRules.{red_ends}
@@ -83,7 +81,7 @@ rx_period plant routes plans bundles whole device port k b x held one small is =
     let same : k % PHASES ≡ k = omega arith in
     let phase = asked.are.each (k % PHASES) asked.is.pair asked.is.there in
     let periods : phase.periods ≡ asked.is.periods = same_Some phase.periods asked.is.periods
-        (sym phase.named ∙ ap (slice_get asked.p.assignments) (sym phase.one) ∙ asked.is.named) in
+    (sym phase.named ∙ ap (slice_get asked.p.assignments) (sym phase.one) ∙ asked.is.named) in
     subst (λ n. IsRxPeriod plant plans device port n x) same
     (subst (IsRxPeriod plant plans device port (k % PHASES)) (ap (λ (a : Assignment). a.rx) periods ∙ asked.is.is) phase.rx)
 
@@ -94,7 +92,7 @@ sent_holds plant routes plans bundles whole at e w b phase tx sending held small
     let own = sent_alone plant routes plans bundles whole at.device.0 at.port at.frame e w sending in
     let period = tx_period plant routes plans bundles whole at.device.0 at.port phase b tx held sending.leaves.from_one small is in
     let sent : IsSentEnd plant plans at.device.0 at.port phase (end_time plant at.device.0 e w) =
-        record { plan = own.plan; e = e; w = w; placed = own.placed; sends = own.sends; due = due; is = refl } in
+    record { plan = own.plan; e = e; w = w; placed = own.placed; sends = own.sends; due = due; is = refl } in
     (omega (arith, period.red), period.orange.bound (end_time plant at.device.0 e w) sent)
 
 -- V8
@@ -106,7 +104,7 @@ received_holds plant routes plans bundles whole at e hop w b phase rx comes port
     let period = rx_period plant routes plans bundles whole at.device.0 at.port phase b rx held one small is in
     let end = w.hi + hop + wire_time e.data_length + guard_time plant.window in
     let received : IsReceivedEnd plant plans at.device.0 at.port phase end =
-        record { plan = own.plan; e = e; hop = hop; w = w; placed = own.placed; comes = own.comes; here = port; due = due; is = refl } in
+    record { plan = own.plan; e = e; hop = hop; w = w; placed = own.placed; comes = own.comes; here = port; due = due; is = refl } in
     (omega (arith, period.red), period.orange.bound end received)
 
 -- a greatest number has what all have, and what 0 has
@@ -131,7 +129,7 @@ received_within plant routes plans bundles whole plan placed device e hop w come
     let from = comes.comes.sent.0 in
     let sending : IsUsing plant plan comes.parent comes.port from w = record { stands = comes.comes.sent.1; leaves = comes.comes.sent.2; sends = comes.sends } in
     let ends : w.hi + wire_time from.data_length + slack_time plant.window comes.parent w.anchor ≤ plant.red_max =
-        red_ends plant routes plans bundles whole plan placed comes.parent comes.port from w sending in
+    red_ends plant routes plans bundles whole plan placed comes.parent comes.port from w sending in
     let s = shaped plant routes plans bundles whole plan placed in
     let first = s.shape.each comes.parent from (entry_from plant plan.entries comes.parent plan.frame.0 from comes.comes.sent.1) in
     let second = s.shape.each device e (entry_from plant plan.entries device plan.frame.0 e comes.stands) in

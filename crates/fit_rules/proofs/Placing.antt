@@ -1,5 +1,5 @@
 -- What stands behind the frames that are placed.
-use Rattle.std.proofs.Common.{◌≡◌, ℕ, Some, slice_get}
+use Rattle.std.proofs.Common.{ℕ}
 use Rattle.irt_base.specs.declared.plants.Demand.{Demand}
 use Rattle.irt_base.specs.declared.plants.Plant.{Plant}
 use Rattle.irt_route.specs.Routes.{RouteTables, IsRoutesOf}

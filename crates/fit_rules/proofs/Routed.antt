@@ -1,26 +1,24 @@
 -- The tree of a demand, as a shape follows it.
-use Rattle.std.proofs.Common.{◌≡◌, ◌≢◌, ℕ, zero, suc, ◌<◌, ◌≤◌, ◌⊎◌, inl, inr, List, [], ◌∷◌, ◌++◌, length, Option, Some, None, sym, ◌∙◌, ap, subst, arith, refl, append_assoc}
-use Rattle.std.specs.Prelude.{IsBitSet, bit_and, ◌^◌, Contains, slice_index_or}
+use Rattle.std.proofs.Common.{◌≡◌, ℕ, zero, suc, ◌≤◌, ◌⊎◌, inl, inr, List, [], ◌∷◌, ◌++◌, length, Option, Some, None, sym, ◌∙◌, ap, subst, arith, refl, append_assoc}
+use Rattle.std.specs.Prelude.{Contains}
 use Rattle.std.proofs.lemmas.List.{append-nil}
-use Rattle.std.proofs.lemmas.Option.{same_Some}
 use Rattle.irt_base.specs.Wiring.{peer_of}
 use Rattle.irt_base.specs.declared.blocks.Entry.{Entry}
 use Rattle.irt_base.specs.declared.numbers.DevId.{DevId}
-use Rattle.irt_base.specs.declared.numbers.FrameId.{FrameId}
 use Rattle.irt_base.specs.declared.numbers.PortNo.{PortNo}
 use Rattle.irt_base.specs.declared.plants.Demand.{Demand}
 use Rattle.irt_base.specs.declared.plants.Plant.{Plant}
 use Rattle.irt_route.specs.Routes.{IsAmong, IsConsumer, IsTreeOf}
-use Rattle.irt_route.specs.Trees.{Parents, parent_at, IsTreeParent, IsTreeStep, IsOnTree, IsParentChain, IsLeft}
+use Rattle.irt_route.specs.Trees.{Parents, parent_at, IsTreeParent, IsTreeStep, IsOnTree, IsParentChain}
 use Rattle.irt_route.specs.Walks.{Peers, IsWalk, IsBestWalk}
 use Rattle.plant_rules.specs.Meets.{MeetsRules, IsDemand}
 use Rattle.plan_rules.specs.Tree.{Consumes, IsReached, here, through}
-use Rattle.plan_rules.specs.Way.{Setup, entry_at, Leaves, IsParent}
+use Rattle.plan_rules.specs.Way.{IsParent}
 use Rattle.fit_rules.specs.declared.frame_plan.FramePlan.{FramePlan}
-use Rattle.fit_rules.specs.Shape.{alone, entry_of, IsOn, IsSentBy, IsEntryOf, HasShape}
+use Rattle.fit_rules.specs.Shape.{alone, entry_of, IsOn, IsSentBy, HasShape}
 use Rattle.fit_rules.proofs.Alike.{stands_alone}
 use Rattle.fit_rules.proofs.Known.{Known}
-use Rattle.fit_rules.proofs.Links.{IsPortOf, peer_port}
+use Rattle.fit_rules.proofs.Links.{peer_port}
 
 -- a demand of a plant that meets its rules, with its tree
 pub record IsRouted (plant : Plant) (parents : Parents) (demand : Demand) : Type 0 where

@@ -1,6 +1,6 @@
 -- There are plans to choose from: each demand has a ratio, and a shape in any ratio and phase.
-use Rattle.std.proofs.Common.{◌≡◌, ◌≢◌, ℕ, zero, suc, ◌+◌, ◌*◌, ◌%◌, ◌/◌, ◌<◌, ◌≤◌, ◌^◌, ◌⊎◌, ◌↔◌, inl, inr, Bool, true, false, cond, true≢false, List, [], ◌∷◌, Option, Some, None, length, slice_get, option_map, sym, ◌∙◌, ap, subst, arith, refl, zero-add, mul-le-mul_right}
-use Rattle.std.specs.Prelude.{◌==◌, ◌&&◌, ◌||◌, IsBitSet, Contains, slice_index_or}
+use Rattle.std.proofs.Common.{◌≡◌, ◌≢◌, ℕ, zero, suc, ◌+◌, ◌*◌, ◌%◌, ◌/◌, ◌<◌, ◌≤◌, ◌↔◌, inl, inr, Bool, true, false, cond, true≢false, List, [], ◌∷◌, Option, Some, None, length, slice_get, option_map, sym, ◌∙◌, ap, subst, arith, refl, zero-add, mul-le-mul_right}
+use Rattle.std.specs.Prelude.{◌==◌, ◌&&◌, ◌||◌, IsBitSet, slice_index_or}
 use Rattle.std.specs.Int.{bit_at}
 use Rattle.std.proofs.lemmas.Bool.{cases_Bool, cases_lt, cond-true, cond-false, and_parts, and_from, or_cases, or_left, or_right, eqb-true, eq-eqb, both_ways}
 use Rattle.std.proofs.lemmas.Nat.Bits.{bit_at_lowest, bit_at-suc, bit_at_above}
@@ -8,20 +8,18 @@ use Rattle.std.proofs.lemmas.Option.{same_Some, slice_get_within}
 use Rattle.irt_base.specs.Cycle.{cycle_time}
 use Rattle.irt_base.specs.Valid.{IsRatio}
 use Rattle.irt_base.specs.Wiring.{peer_of}
-use Rattle.irt_base.specs.declared.limits.TheConstants.{MAX_PORTS}
 use Rattle.irt_base.specs.declared.blocks.Entry.{Entry}
 use Rattle.irt_base.specs.declared.numbers.DevId.{DevId}
 use Rattle.irt_base.specs.declared.numbers.PortNo.{PortNo}
 use Rattle.irt_base.specs.declared.plants.Demand.{Demand}
 use Rattle.irt_base.specs.declared.plants.Plant.{Plant}
 use Rattle.irt_route.specs.Trees.{Parents, parent_at}
-use Rattle.plant_rules.specs.Meets.{MeetsRules, IsDemand, IsDevice}
-use Rattle.plan_rules.specs.Tree.{Consumes}
+use Rattle.plant_rules.specs.Meets.{IsDevice}
 use Rattle.fit_rules.specs.declared.frame_plan.FramePlan.{FramePlan}
 use Rattle.fit_rules.specs.Shape.{entry_of, IsRatioFor, IsOn, IsSentBy, IsReceivedFrom, IsEntryOf, HasShape}
 use Rattle.fit_rules.proofs.Bytes.{one_at, set_at}
 use Rattle.fit_rules.proofs.Entries.{no_entry}
-use Rattle.fit_rules.proofs.Links.{IsPortOf, peer_port}
+use Rattle.fit_rules.proofs.Links.{peer_port}
 use Rattle.fit_rules.proofs.Lists.{each_at, contains_at, place_of}
 use Rattle.fit_rules.proofs.Routed.{IsRouted, step_of}
 
@@ -175,9 +173,9 @@ made_entry plant parents demand routed ratio phase device rx on provided receive
   sent = sent_bits plant parents demand routed device;
   kept = (
     λ set. (let (n, at) = kept_place device demand.consumers (set_passes (has_bit parents demand device) 0 (omega arith) set) in
-    contains_at demand.consumers n (record { 0 = device }) at),
+        contains_at demand.consumers n (record { 0 = device }) at),
     λ consumes. (let (n, at) = place_of demand.consumers (record { 0 = device }) consumes in
-    passes_set (has_bit parents demand device) 0 (omega arith) (place_kept device demand.consumers n at)),
+        passes_set (has_bit parents demand device) 0 (omega arith) (place_kept device demand.consumers n at)),
   );
   small = bits_small (has_bit parents demand device) 8;
 }
@@ -232,10 +230,10 @@ made_is plant parents demand routed ratio phase device e (Some from) at off is =
     let far = step.step.step.far in
     let over = step.step.step.over in
     let same = same_Some (made parents demand ratio phase device far.1.0) e
-        (sym (ap (option_map (λ (x : DevId × PortNo). made parents demand ratio phase device x.1.0)) over) ∙ is) in
+    (sym (ap (option_map (λ (x : DevId × PortNo). made parents demand ratio phase device x.1.0)) over) ∙ is) in
     let entry = made_entry plant parents demand routed ratio phase device far.1.0 (inr (from, at)) (λ own. absurd (off own))
-        (λ other also. far_received plant parents demand routed ratio phase device other far
-        (ap (λ (x : DevId × PortNo). peer_of plant x.0.0 x.1.0) (same_Some other from (sym also ∙ at)) ∙ over) step.step.step.there) in
+    (λ other also. far_received plant parents demand routed ratio phase device other far
+    (ap (λ (x : DevId × PortNo). peer_of plant x.0.0 x.1.0) (same_Some other from (sym also ∙ at)) ∙ over) step.step.step.there) in
     (subst (IsEntryOf plant parents demand ratio phase device) same entry, sym (ap (λ (x : Entry). x.send_offset) same))
 
 entry_made : (plant : Plant) (parents : Parents) (demand : Demand) → IsRouted plant parents demand → (ratio phase device : ℕ) (e : Entry) →
@@ -244,10 +242,10 @@ entry_made plant parents demand routed ratio phase device e is = elim (cases_Boo
   | inl own ↦
       let provider = eqb-true device demand.provider.0 own in
       let same = same_Some (made parents demand ratio phase device 0) e
-          (sym (cond-true (device == demand.provider.0) (Some (made parents demand ratio phase device 0)) _ own) ∙ is) in
+      (sym (cond-true (device == demand.provider.0) (Some (made parents demand ratio phase device 0)) _ own) ∙ is) in
       let entry = made_entry plant parents demand routed ratio phase device 0 (inl provider) (λ _. refl)
-          (λ from at. absurd (routed.known.start (peer_of plant) demand.provider.0 demand.consumers from
-          (step_of plant parents demand routed demand.provider.0 from (subst (λ n. parent_at parents n ≡ Some from) provider at)))) in
+      (λ from at. absurd (routed.known.start (peer_of plant) demand.provider.0 demand.consumers from
+      (step_of plant parents demand routed demand.provider.0 from (subst (λ n. parent_at parents n ≡ Some from) provider at)))) in
       (subst (IsEntryOf plant parents demand ratio phase device) same entry, sym (ap (λ (x : Entry). x.send_offset) same))
   | inr other ↦
       made_is plant parents demand routed ratio phase device e (parent_at parents device) refl (λ own. both_ways _ other (eq-eqb device demand.provider.0 own))
@@ -275,8 +273,8 @@ made_full plant parents demand routed ratio phase device on = elim (cases_Bool (
         let step = (step_of plant parents demand routed device from at).step.step in (
           made parents demand ratio phase device step.far.1.0,
           cond-false (device == demand.provider.0) (Some (made parents demand ratio phase device 0)) _ other
-          ∙ ap (made_from plant parents demand ratio phase device) at
-          ∙ ap (option_map (λ (x : DevId × PortNo). made parents demand ratio phase device x.1.0)) step.over,
+              ∙ ap (made_from plant parents demand ratio phase device) at
+              ∙ ap (option_map (λ (x : DevId × PortNo). made parents demand ratio phase device x.1.0)) step.over,
         )
 
 abbrev pub ShapedPlan : Plant → Parents → Demand → ℕ → ℕ → Type 0
@@ -288,7 +286,7 @@ some_shape plant parents demand routed ratio phase =
     let devices = length plant.devices in
     let entry = made_at plant parents demand ratio phase in
     let there = λ (device : ℕ) (e : Entry) (is : entry_of (made_plan plant parents demand ratio phase) device ≡ Some e).
-        entry_made plant parents demand routed ratio phase device e (sym (listed_at entry 0 devices device (listed_within entry 0 devices device e is) ∙ ap entry (zero-add device)) ∙ is) in (
+    entry_made plant parents demand routed ratio phase device e (sym (listed_at entry 0 devices device (listed_within entry 0 devices device e is) ∙ ap entry (zero-add device)) ∙ is) in (
       made_plan plant parents demand ratio phase,
       record {
         frame = refl;
@@ -310,7 +308,7 @@ ratio_by : (plant : Plant) (demand : Demand) (ratio : ℕ) → IsRatio ratio →
 ratio_by plant demand ratio is fits above = record {
   is = is;
   update = fits;
-  greatest = λ other also held. elim (cases_lt ratio other) [ | inl more ↦ absurd (above other also more held) | inr within ↦ within ];
+  greatest = λ other also held. elim (cases_lt ratio other) [ inl more ↦ absurd (above other also more held) | inr within ↦ within ];
 }
 
 -- the ratios are five, each the double of the one before

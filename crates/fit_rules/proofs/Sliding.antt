@@ -1,16 +1,16 @@
 -- The windows that hang on an anchor move with its offset.
 use Rattle.std.proofs.Common.{◌≡◌, ℕ, zero, suc, ◌+◌, ◌<◌, ◌≤◌, inl, inr, Bool, true, false, cond, List, [], ◌∷◌, Option, Some, None, sym, ◌∙◌, ap, subst, arith, refl}
-use Rattle.std.specs.Prelude.{map, slice_index_or, slice_set, option_map, IsBitSet, Contains}
+use Rattle.std.specs.Prelude.{slice_index_or, slice_set, option_map, IsBitSet, Contains}
 use Rattle.std.proofs.lemmas.Option.{same_Some}
 use Rattle.irt_base.specs.Cycle.{SharesCycle, wire_time}
 use Rattle.irt_base.specs.Wiring.{peer_of}
 use Rattle.irt_base.specs.declared.blocks.Entry.{Entry}
 use Rattle.irt_base.specs.declared.blocks.FrameBlock.{FrameBlock}
 use Rattle.irt_base.specs.declared.plants.Plant.{Plant}
-use Rattle.plan_rules.specs.Way.{Setup, entry_at, Leaves, IsAnchor, IsParent}
+use Rattle.plan_rules.specs.Way.{entry_at, Leaves, IsAnchor, IsParent}
 use Rattle.plan_rules.specs.SendWindow.{SendWindow, HasWindow, at_anchor, behind, slack_time}
 use Rattle.fit_rules.specs.declared.frame_plan.FramePlan.{FramePlan}
-use Rattle.fit_rules.specs.Shape.{alone, moved, block_of, with_offset}
+use Rattle.fit_rules.specs.Shape.{alone, moved, with_offset}
 use Rattle.fit_rules.specs.Fit.{IsUsing, IsClearAt, end_time}
 use Rattle.fit_rules.specs.Moves.{IsAlike, IsShifted, AreTooClose}
 use Rattle.fit_rules.proofs.Entries.{setup, entry_in, no_entry}
@@ -76,7 +76,7 @@ slides plant xs ys frame anchor x y twins first second _ _ same (behind d e pare
     let hi : v.hi + x ≡ w.hi + y = shifted.hi in (
       record { lo = v.lo + (hop + dev.bmin); hi = v.hi + (hop + dev.bmax); anchor = v.anchor },
       behind d g parent port hop v dev at (λ own. other (alike_anchor plant ys xs d g e (flipped e g alike) own))
-      (alike_parent plant xs ys frame twins d e g parent port alike comes) before hops held,
+          (alike_parent plant xs ys frame twins d e g parent port alike comes) before hops held,
       record { lo = omega arith; hi = omega arith; anchor = shifted.anchor },
     )
 
@@ -144,7 +144,7 @@ pub blocked : (plant : Plant) (placed : List FramePlan) (plan : FramePlan) (anch
 blocked plant placed plan anchor x y device port e w sending same other f v among using shared close up before clear =
     let (g, u, alike, now, shifted) = moves plant plan anchor x y device port e w sending same in
     let shares : SharesCycle g.ratio g.phase f.ratio f.phase =
-        subst (λ r. SharesCycle r g.phase f.ratio f.phase) (sym alike.ratio) (subst (λ p. SharesCycle e.ratio p f.ratio f.phase) (sym alike.phase) shared) in
+    subst (λ r. SharesCycle r g.phase f.ratio f.phase) (sym alike.ratio) (subst (λ p. SharesCycle e.ratio p f.ratio f.phase) (sym alike.phase) shared) in
     let room = clear device port g u now (shifted.anchor ∙ same) in
     let lo : u.lo + x ≡ w.lo + y = shifted.lo in
     let hi : u.hi + x ≡ w.hi + y = shifted.hi in
@@ -158,6 +158,7 @@ blocked plant placed plan anchor x y device port e w sending same other f v amon
   where
     too_late : (lo hi now x y length wire slack here : ℕ) → lo < hi + length + slack → now + x ≡ hi + y → x ≤ y → wire ≡ length → here ≡ slack → now + wire + here ≤ lo → ⊥
     too_late lo hi now x y length wire slack here close shift up same also earlier = omega arith
+
     too_early : (lo now x y end wire slack here : ℕ) → now + x ≡ lo + y → lo + y < x + end + wire + slack → here ≡ slack → end + wire + here ≤ now → ⊥
     too_early lo now x y end wire slack here shift before also later = omega arith
 

@@ -1,6 +1,6 @@
 -- Two lists of the same items, both in one strict order, are one.
-use Rattle.std.proofs.Common.{◌≡◌, ℕ, zero, suc, ◌<◌, List, [], ◌∷◌, Some, length, slice_get, sym, ◌∙◌, ap, subst, arith, refl}
-use Rattle.std.specs.Prelude.{AllPairs, slice_index_or}
+use Rattle.std.proofs.Common.{◌≡◌, ℕ, zero, suc, List, [], ◌∷◌, Some, slice_get, sym, ◌∙◌, subst, arith, refl}
+use Rattle.std.specs.Prelude.{AllPairs}
 use Rattle.std.proofs.lemmas.Option.{same_Some, slice_get_within, get_or_from_slice_get}
 use Rattle.fit_rules.proofs.Entries.{no_entry}
 
@@ -46,6 +46,6 @@ one_sorted In R strict (x ∷ xs) (y ∷ ys) first second within to from =
     let also = within m y back in
     let same = same_head In R strict x y xs ys first second own also n m there back in
     let rest = one_sorted In R strict xs ys (tail_sorted R x xs first) (tail_sorted R y ys second) (λ k z is. within (suc k) z is)
-        (λ k z is. let (l, at) = to (suc k) z is in tail_member In R strict x y z xs ys same own first k is l at)
-        (λ k z is. let (l, at) = from (suc k) z is in tail_member In R strict y x z ys xs (sym same) also second k is l at) in
+    (λ k z is. let (l, at) = to (suc k) z is in tail_member In R strict x y z xs ys same own first k is l at)
+    (λ k z is. let (l, at) = from (suc k) z is in tail_member In R strict y x z ys xs (sym same) also second k is l at) in
     λ i. same i ∷ rest i

@@ -1,47 +1,38 @@
 -- First fit's bundles are valid values.
-use Rattle.std.proofs.Common.{◌≡◌, ◌≢◌, ℕ, zero, suc, ◌+◌, ◌*◌, ◌<◌, ◌≤◌, ◌^◌, ◌⊎◌, ◌++◌, inl, inr, Bool, true, false, cond, List, [], ◌∷◌, Option, Some, None, length, slice_get, map, option_map, replicate, sym, ◌∙◌, ap, subst, arith, refl}
-use Rattle.std.specs.Prelude.{◌==◌, if◌then◌else◌, Contains, All, slice_index_or, codes}
-use Rattle.std.specs.List.{AllByRecursion}
+use Rattle.std.proofs.Common.{◌≡◌, ℕ, zero, suc, ◌+◌, ◌<◌, ◌≤◌, ◌^◌, ◌⊎◌, ◌++◌, inl, inr, Bool, true, false, List, [], ◌∷◌, Some, length, slice_get, map, option_map, replicate, sym, ◌∙◌, ap, subst, arith, refl}
+use Rattle.std.specs.Prelude.{◌==◌, if◌then◌else◌, Contains, slice_index_or}
 use Rattle.std.proofs.lemmas.Bool.{cases_lt, both_ways, eq-eqb}
 use Rattle.std.proofs.lemmas.List.{length-map}
 use Rattle.std.proofs.lemmas.List.Kept.{AllPairs-from_increasing}
 use Rattle.std.proofs.lemmas.Option.{same_Some, slice_get_within, slice_get-get_or, slice_get-map}
-use Rattle.irt_base.specs.Cycle.{cycle_time, guard_time, wire_time}
-use Rattle.irt_base.specs.Valid.{IsWithin, IsDataLength, IsRatio, IsRate, AreBytes, IsIdentifier, IsEntry, frames_of, IsFrameBlock, IsPeriod, IsAssignment, IsPhasePair, IsPortPeriods, IsPeriodBlock, IsPortDelay, IsGlobalBlock, IsDomainByte, IsSyncBlock, IsBundle}
-use Rattle.irt_base.specs.Wiring.{peer_of}
-use Rattle.irt_base.specs.declared.limits.TheConstants.{MIN_FRAME, MAX_FRAME, MAX_RED_FRAME, MAX_PORTS, MAX_DEMANDS, MAX_DELAY, MAX_ASSIGNMENTS, PHASES}
-use Rattle.irt_base.specs.declared.blocks.Assignment.{Assignment}
+use Rattle.irt_base.specs.Cycle.{cycle_time, wire_time}
+use Rattle.irt_base.specs.Valid.{IsWithin, IsDataLength, IsRate, AreBytes, IsIdentifier, IsEntry, frames_of, IsFrameBlock, IsPeriod, IsAssignment, IsPhasePair, IsPortPeriods, IsPeriodBlock, IsGlobalBlock, IsDomainByte, IsSyncBlock, IsBundle}
+use Rattle.irt_base.specs.declared.limits.TheConstants.{MIN_FRAME, MAX_FRAME, MAX_PORTS, MAX_DEMANDS, MAX_ASSIGNMENTS}
 use Rattle.irt_base.specs.declared.blocks.Bundle.{Bundle}
 use Rattle.irt_base.specs.declared.blocks.Entry.{Entry}
 use Rattle.irt_base.specs.declared.blocks.FrameBlock.{FrameBlock}
-use Rattle.irt_base.specs.declared.blocks.GlobalBlock.{GlobalBlock}
 use Rattle.irt_base.specs.declared.blocks.Period.{Period}
 use Rattle.irt_base.specs.declared.blocks.PeriodBlock.{PeriodBlock}
 use Rattle.irt_base.specs.declared.blocks.PhasePair.{PhasePair}
 use Rattle.irt_base.specs.declared.blocks.PortPeriods.{PortPeriods}
-use Rattle.irt_base.specs.declared.blocks.SyncBlock.{SyncBlock}
-use Rattle.irt_base.specs.declared.numbers.DevId.{DevId}
 use Rattle.irt_base.specs.declared.numbers.FrameId.{FrameId}
-use Rattle.irt_base.specs.declared.numbers.PortNo.{PortNo}
-use Rattle.irt_base.specs.declared.plants.Demand.{Demand}
 use Rattle.irt_base.specs.declared.plants.Device.{Device}
 use Rattle.irt_base.specs.declared.plants.Plant.{Plant}
 use Rattle.irt_route.specs.Routes.{RouteTables}
-use Rattle.plant_rules.specs.Meets.{MeetsRules, IsDevice, IsDemand, IsConsumer}
+use Rattle.plant_rules.specs.Meets.{MeetsRules, IsDevice, IsConsumer}
 use Rattle.plan_rules.specs.Plan.{IsPlan}
 use Rattle.plan_rules.specs.SendWindow.{SendWindow, at_anchor, slack_time}
 use Rattle.plan_rules.specs.Tree.{Consumes}
 use Rattle.plan_rules.specs.Way.{Leaves, IsAnchor}
 use Rattle.fit_rules.specs.declared.frame_plan.FramePlan.{FramePlan}
 use Rattle.fit_rules.specs.Shape.{alone, entry_of, IsOn, IsSentBy}
-use Rattle.fit_rules.specs.Fit.{IsUsing, end_time}
+use Rattle.fit_rules.specs.Fit.{IsUsing}
 use Rattle.fit_rules.specs.Order.{parents_of}
-use Rattle.fit_rules.specs.Blocks.{identifier, sync_of, global_of, AreEntries, IsTxPeriod, IsRxPeriod, IsPhase, IsBeforePhase, AreNumbered, ArePortPeriods, ArePeriods, IsBundleOf}
+use Rattle.fit_rules.specs.Blocks.{identifier, sync_of, global_of, AreEntries, IsTxPeriod, IsRxPeriod, AreNumbered, ArePortPeriods, ArePeriods, IsBundleOf}
 use Rattle.fit_rules.proofs.Alike.{stands_alone, entry_frame}
 use Rattle.fit_rules.proofs.Counting.{no_longer}
-use Rattle.fit_rules.proofs.Entries.{no_entry}
 use Rattle.fit_rules.proofs.FrameRules.{red_ends, provided_rx}
-use Rattle.fit_rules.proofs.Links.{IsPortOf, peer_port, mapped}
+use Rattle.fit_rules.proofs.Links.{peer_port, mapped}
 use Rattle.fit_rules.proofs.Lists.{contains_at, place_of, each_at, all_from, some_at}
 use Rattle.fit_rules.proofs.Merged.{IsWhole, IsShaped, shaped, held_at}
 use Rattle.fit_rules.proofs.PeriodRules.{tx_within, rx_within}
@@ -106,7 +97,7 @@ anchor_sends plant routes plans bundles whole plan s device e is (inl none) =
     go (inl consumes) provider =
         let (n, at) = place_of s.demand.consumers (record { 0 = device }) consumes in
         let c = each_at (IsConsumer plant s.demand.provider) s.demand.consumers n (record { 0 = device })
-            (valid_at plant routes s.index s.demand whole.are s.there).consumers at in
+        (valid_at plant routes s.index s.demand whole.are s.there).consumers at in
         absurd (both_ways _ c.other (eq-eqb device s.demand.provider.0 provider))
     go (inr (port, one, sent)) provider = (port, record { from_one = one; bit = ((s.shape.each device e is).sent port one).1 sent })
 
@@ -119,7 +110,7 @@ offset_within plant routes plans bundles whole plan placed s device e is anchor 
     let w : SendWindow = record { lo = e.send_offset; hi = e.send_offset; anchor = device } in
     let sending : IsUsing plant plan device port e w = record { stands = stands; leaves = leaves; sends = at_anchor device e stands anchor } in
     let ends : e.send_offset + wire_time e.data_length + slack_time plant.window device device ≤ plant.red_max =
-        red_ends plant routes plans bundles whole plan placed device port e w sending in
+    red_ends plant routes plans bundles whole plan placed device port e w sending in
     summed e.send_offset (wire_time e.data_length) _ plant.red_max ends
   where
     summed : (offset wire slack limit : ℕ) → offset + wire + slack ≤ limit → offset ≤ limit
@@ -132,7 +123,7 @@ pub offset_red : (plant : Plant) (routes : RouteTables) (plans : List FramePlan)
 offset_red plant routes plans bundles whole plan placed s device e is = elim (cases_lt plant.red_max e.send_offset) [
   | inl more ↦
       let idle = s.shape.idle device e is
-          (λ anchor. let within = offset_within plant routes plans bundles whole plan placed s device e is anchor in absurd (omega arith)) in
+      (λ anchor. let within = offset_within plant routes plans bundles whole plan placed s device e is anchor in absurd (omega arith)) in
       absurd (omega arith)
   | inr within ↦ within
 ]

@@ -7,7 +7,6 @@ use Rattle.irt_base.specs.declared.limits.TheConstants.{PHASES, MIN_FRAME, MAX_F
 use Rattle.irt_base.specs.declared.blocks.Assignment.{Assignment}
 use Rattle.irt_base.specs.declared.blocks.Bundle.{Bundle}
 use Rattle.irt_base.specs.declared.blocks.Entry.{Entry}
-use Rattle.irt_base.specs.declared.blocks.FrameBlock.{FrameBlock}
 use Rattle.irt_base.specs.declared.blocks.GlobalBlock.{GlobalBlock}
 use Rattle.irt_base.specs.declared.blocks.Period.{Period}
 use Rattle.irt_base.specs.declared.blocks.PeriodBlock.{PeriodBlock}

@@ -4,7 +4,6 @@ use Rattle.irt_base.specs.declared.blocks.Bundle.{Bundle}
 use Rattle.irt_base.specs.declared.blocks.Entry.{Entry}
 use Rattle.irt_base.specs.declared.blocks.Period.{Period}
 use Rattle.irt_base.specs.declared.plants.Demand.{Demand}
-use Rattle.irt_base.specs.declared.plants.Plant.{Plant}
 use Rattle.plan_rules.specs.Arrival.{IsPlanned}
 use Rattle.plan_rules.specs.Way.{Setup, entry_at}
 use Rattle.plan_rules.specs.Periods.{HasPeriods}

@@ -1,5 +1,5 @@
 -- What one frame has at each device, and the tree that it follows.
-use Rattle.std.specs.Prelude.{◌≡◌, ℕ, ◌*◌, ◌<◌, ◌≤◌, ◌⊎◌, ◌↔◌, ◌^◌, false, List, [], ◌∷◌, Option, Some, None, option_map, length, map, slice_index_or, slice_set, IsBitSet}
+use Rattle.std.specs.Prelude.{◌≡◌, ℕ, ◌*◌, ◌<◌, ◌≤◌, ◌⊎◌, ◌↔◌, ◌^◌, false, [], ◌∷◌, Option, Some, None, option_map, length, map, slice_index_or, slice_set, IsBitSet}
 use Rattle.irt_base.specs.Cycle.{cycle_time}
 use Rattle.irt_base.specs.Valid.{IsRatio}
 use Rattle.irt_base.specs.Wiring.{peer_of}
