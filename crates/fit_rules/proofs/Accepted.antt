@@ -1,10 +1,13 @@
 -- First fit's bundles are an accepted plan.
-use Rattle.std.proofs.Common.{List}
+use Rattle.std.proofs.Common.{ℕ, zero, suc, List, [], ◌∷◌, slice_index_or}
+use Rattle.std.specs.Prelude.{⊤}
 use Rattle.irt_base.specs.declared.blocks.Bundle.{Bundle}
 use Rattle.irt_base.specs.declared.plants.Plant.{Plant}
 use Rattle.irt_route.specs.Routes.{RouteTables, IsRoutesOf}
 use Rattle.plan_rules.specs.Places.{IsAccepted}
 use Rattle.plan_rules.specs.Plan.{IsPlan}
+use Rattle.plan_rules.specs.Rules.{rule_table, AsksNothing}
+use Rattle.plan_rules.specs.declared.place.Place.{Place}
 use Rattle.fit_rules.specs.Blocks.{AreFirstFit}
 use Rattle.fit_rules.proofs.FrameRules.{tree_holds, demand_holds, idle_holds, late_holds, apart_holds, end_holds}
 use Rattle.fit_rules.proofs.HeaderRules.{header_holds, frame_holds, range_holds, clock_holds}
@@ -20,22 +23,18 @@ whole_fit known plant routes bundles are fit = record { known = known; are = are
 pub plan_of_fit : Known → (plant : Plant) (routes : RouteTables) (bundles : List Bundle) → IsRoutesOf plant routes → AreFirstFit plant routes bundles → IsPlan plant bundles
 plan_of_fit known plant routes bundles are fit = plan_holds plant routes fit.plans bundles (whole_fit known plant routes bundles are fit)
 
-pub accepted_fit : Known → (plant : Plant) (routes : RouteTables) (bundles : List Bundle) → IsRoutesOf plant routes → AreFirstFit plant routes bundles → IsAccepted plant bundles
+-- each of a list of rules holds everywhere
+abbrev AreKept : List (Place → Type 0) → Type 0
+AreKept [] = ⊤
+AreKept (Rule ∷ rules) = ((at : Place) → Rule at) × AreKept rules
+
+kept_rule : (rules : List (Place → Type 0)) → AreKept rules → (number : ℕ) (at : Place) → slice_index_or rules number AsksNothing at
+kept_rule [] are number at = tt
+kept_rule (Rule ∷ rules) are zero at = are.0 at
+kept_rule (Rule ∷ rules) are (suc number) at = kept_rule rules are.1 number at
+
+pub accepted_fit : Known → (plant : Plant) (routes : RouteTables) (bundles : List Bundle) → IsRoutesOf plant routes → AreFirstFit plant routes bundles →
+    IsAccepted plant bundles
 accepted_fit known plant routes bundles are fit =
-    let whole = whole_fit known plant routes bundles are fit in record {
-      header = header_holds plant routes fit.plans bundles whole;
-      trees = tree_holds plant routes fit.plans bundles whole;
-      demands = demand_holds plant routes fit.plans bundles whole;
-      offsets = idle_holds plant routes fit.plans bundles whole;
-      forwards = late_holds plant routes fit.plans bundles whole;
-      apart = apart_holds plant routes fit.plans bundles whole;
-      sent = sent_holds plant routes fit.plans bundles whole;
-      received = received_holds plant routes fit.plans bundles whole;
-      ends = end_holds plant routes fit.plans bundles whole;
-      red_limit = limit_holds plant routes fit.plans bundles whole;
-      red_frames = frame_holds plant routes fit.plans bundles whole;
-      range = range_holds plant routes fit.plans bundles whole;
-      orange = orange_holds plant routes fit.plans bundles whole;
-      order = order_holds plant routes fit.plans bundles whole;
-      clocks = clock_holds plant routes fit.plans bundles whole;
-    }
+    let whole = whole_fit known plant routes bundles are fit in
+    kept_rule (AsksNothing ∷ rule_table plant bundles) (λ at. tt, (header_holds plant routes fit.plans bundles whole, (tree_holds plant routes fit.plans bundles whole, (demand_holds plant routes fit.plans bundles whole, (idle_holds plant routes fit.plans bundles whole, (late_holds plant routes fit.plans bundles whole, (apart_holds plant routes fit.plans bundles whole, (sent_holds plant routes fit.plans bundles whole, (received_holds plant routes fit.plans bundles whole, (end_holds plant routes fit.plans bundles whole, (limit_holds plant routes fit.plans bundles whole, (frame_holds plant routes fit.plans bundles whole, (range_holds plant routes fit.plans bundles whole, (orange_holds plant routes fit.plans bundles whole, (order_holds plant routes fit.plans bundles whole, (clock_holds plant routes fit.plans bundles whole, tt))))))))))))))))

@@ -266,7 +266,7 @@ apart_holds plant routes plans bundles whole at d e v w less first second shared
           absurd (omega arith)
       | inr (inl before) ↦
           swapped ((room_at plant routes plans bundles whole m two.plan there at.device.0 at.port e w two.sends).apart one.plan d v
-          (contains_at (take m plans) n one.plan (take_at plans m n before ∙ here_is)) one.sends (shared.0, shared.1, shared.3, shared.2))
+          (contains_at (take m plans) n one.plan (take_at plans m n before ∙ here_is)) one.sends (shared.0, shared.2, shared.1))
       | inr (inr after) ↦
           (room_at plant routes plans bundles whole n one.plan here_is at.device.0 at.port d v one.sends).apart two.plan e w
           (contains_at (take n plans) m two.plan (take_at plans n m after ∙ there)) two.sends shared
