@@ -20,3 +20,4 @@ pub mod Shapes
 pub mod Sliding
 pub mod Sorted
 pub mod Valid
+mod LineExample
