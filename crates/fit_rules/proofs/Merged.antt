@@ -55,12 +55,6 @@ shaped_at plant routes order placed n plan at =
     let is = first.is in
     record { index = at.index; demand = at.demand; ratio = is.ratio; phase = first.phase; there = at.there; rate = is.rate; among = is.among; shape = is.shape }
 
-pub shaped : (plant : Plant) (routes : RouteTables) (plans : List FramePlan) (bundles : List Bundle) → IsWhole plant routes plans bundles →
-    (plan : FramePlan) → Contains plans plan → IsShaped plant routes plan
-shaped plant routes plans bundles whole plan has =
-    let (n, at) = place_of plans plan has in
-    shaped_at plant routes whole.fit.order (take n plans) n plan (whole.fit.placed n plan at)
-
 pub one_farthest : (plant : Plant) (demand : Demand) (n m : ℕ) → HasFarthest plant demand n → HasFarthest plant demand m → n ≤ m
 one_farthest plant demand n m a b = b.bound a.some.0 n a.some.1 a.some.2
 
@@ -122,67 +116,11 @@ held_at plant plans bundles are device b at =
     let (d, there) = some_at plant.devices device within in
     record { d = d; there = there; is = are.each device d b there at }
 
-pub from_blocks : (plant : Plant) (routes : RouteTables) (plans : List FramePlan) (bundles : List Bundle) → IsWhole plant routes plans bundles →
-    (device frame : ℕ) (e : Entry) → entry_at (setup_of plant bundles) device frame ≡ Some e → IsPlacedEntry plans device frame e
-from_blocks plant routes plans bundles whole device frame e is =
-    let (block, here, holds) = bound (λ (b : FrameBlock). find (λ (x : Entry). x.frame.0 == frame) b.entries)
-    (slice_get (map (λ (b : Bundle). b.frames) bundles) device) e is in
-    let (b, at, same) = mapped (λ (b : Bundle). b.frames) (slice_get bundles device) block (sym (slice_get-map (λ (b : Bundle). b.frames) bundles device) ∙ here) in
-    let (n, stands, passes) = found_at (λ (x : Entry). x.frame.0 == frame) block.entries e holds in
-    let own = (held_at plant plans bundles whole.blocks device b at).is in
-    let (plan, placed, there) = own.entries.only e (contains_at b.frames.entries n e (ap (λ (f : FrameBlock). slice_get f.entries n) same ∙ stands)) in
-    let s = shaped plant routes plans bundles whole plan placed in
-    let frames = entry_frame plant (parents_of routes s.index) s.demand s.ratio s.phase plan s.shape device e there in
-    record { plan = plan; placed = placed; there = there; named = sym (ap (λ (f : FrameId). f.0) frames) ∙ eqb-true e.frame.0 frame passes }
-
 within_entries : (entries : List (Option Entry)) (device : ℕ) (e : Entry) → slice_index_or entries device None ≡ Some e → device < length entries
 within_entries entries device e is = elim (cases_lt device (length entries)) [
   | inl less ↦ less
   | inr past ↦ no_entry e (sym (get_or_past entries device None past) ∙ is)
 ]
-
-pub to_blocks : (plant : Plant) (routes : RouteTables) (plans : List FramePlan) (bundles : List Bundle) → IsWhole plant routes plans bundles →
-    (plan : FramePlan) → Contains plans plan → (device : ℕ) (e : Entry) → entry_of plan device ≡ Some e →
-    entry_at (setup_of plant bundles) device plan.frame.0 ≡ Some e
-to_blocks plant routes plans bundles whole plan placed device e is =
-    let s = shaped plant routes plans bundles whole plan placed in
-    let within : device < length bundles = omega (arith, within_entries plan.entries device e is, s.shape.count, whole.blocks.count) in
-    let (b, at) = some_at bundles device within in
-    let own = (held_at plant plans bundles whole.blocks device b at).is in
-    let (n, stands) = place_of b.frames.entries e (own.entries.all plan e placed is) in
-    let named = ap (λ (f : FrameId). f.0) (entry_frame plant (parents_of routes s.index) s.demand s.ratio s.phase plan s.shape device e is) in
-    let one = λ (m : ℕ) (g : Entry) (there : slice_get b.frames.entries m ≡ Some g) (passes : (g.frame.0 == plan.frame.0) ≡ true).
-    same_there plant routes plans bundles whole plan placed device e is g (own.entries.only g (contains_at b.frames.entries m g there)) (eqb-true g.frame.0 plan.frame.0 passes) in
-    ap (option_and_then (λ (f : FrameBlock). find (λ (x : Entry). x.frame.0 == plan.frame.0) f.entries))
-    (slice_get-map (λ (x : Bundle). x.frames) bundles device ∙ ap (option_map (λ (x : Bundle). x.frames)) at)
-    ∙ find_one (λ (x : Entry). x.frame.0 == plan.frame.0) b.frames.entries n e stands (eq-eqb e.frame.0 plan.frame.0 named) one
-  where
-    same_there : (plant : Plant) (routes : RouteTables) (plans : List FramePlan) (bundles : List Bundle) → IsWhole plant routes plans bundles →
-        (plan : FramePlan) → Contains plans plan → (device : ℕ) (e : Entry) → entry_of plan device ≡ Some e → (g : Entry) →
-        ((other : FramePlan) × Contains plans other × (entry_of other device ≡ Some g)) → g.frame.0 ≡ plan.frame.0 → g ≡ e
-    same_there plant routes plans bundles whole plan placed device e is g (other, also, there) named =
-        let t = shaped plant routes plans bundles whole other also in
-        let frames = ap (λ (f : FrameId). f.0) (entry_frame plant (parents_of routes t.index) t.demand t.ratio t.phase other t.shape device g there) in
-        let plans_same = same_plan plant routes whole.are.rules plans whole.fit other plan also placed (sym frames ∙ named) in
-        same_Some g e (sym there ∙ ap (λ (p : FramePlan). entry_of p device) plans_same ∙ is)
-
-merged_at : (plant : Plant) (routes : RouteTables) (plans : List FramePlan) (bundles : List Bundle) → IsWhole plant routes plans bundles →
-    (plan : FramePlan) → Contains plans plan → (device : ℕ) (o p : Option Entry) → entry_at (setup_of plant bundles) device plan.frame.0 ≡ o →
-    entry_at (alone plant plan) device plan.frame.0 ≡ p → o ≡ p
-merged_at plant routes plans bundles whole plan placed device None None is at = refl
-merged_at plant routes plans bundles whole plan placed device None (Some f) is at =
-    no_entry f (sym is ∙ to_blocks plant routes plans bundles whole plan placed device f (entry_from plant plan.entries device plan.frame.0 f at))
-merged_at plant routes plans bundles whole plan placed device (Some e) p is at =
-    let s = shaped plant routes plans bundles whole plan placed in
-    let has = from_blocks plant routes plans bundles whole device plan.frame.0 e is in
-    let same = same_plan plant routes whole.are.rules plans whole.fit has.plan plan has.placed placed has.named in
-    let there = ap (λ (x : FramePlan). entry_of x device) (sym same) ∙ has.there in
-    sym (stands_alone plant (parents_of routes s.index) s.demand s.ratio s.phase plan s.shape device e there) ∙ at
-
-pub merged : (plant : Plant) (routes : RouteTables) (plans : List FramePlan) (bundles : List Bundle) → IsWhole plant routes plans bundles →
-    (plan : FramePlan) → Contains plans plan → (device : ℕ) →
-    entry_at (setup_of plant bundles) device plan.frame.0 ≡ entry_at (alone plant plan) device plan.frame.0
-merged plant routes plans bundles whole plan placed device = merged_at plant routes plans bundles whole plan placed device _ _ refl refl
 
 -- a frame's windows are told by its own entries
 pub same_windows : (plant : Plant) (xs ys : List FrameBlock) (frame : ℕ) →
@@ -201,47 +139,102 @@ pub record IsSentAlone (plant : Plant) (plans : List FramePlan) (device port fra
   pub named : plan.frame.0 ≡ frame
   pub sends : IsUsing plant plan device port e w
 
-pub sent_alone : (plant : Plant) (routes : RouteTables) (plans : List FramePlan) (bundles : List Bundle) → IsWhole plant routes plans bundles →
-    (device port frame : ℕ) (e : Entry) (w : SendWindow) → IsSending (setup_of plant bundles) device port frame e w → IsSentAlone plant plans device port frame e w
-sent_alone plant routes plans bundles whole device port frame e w sending =
-    let has = from_blocks plant routes plans bundles whole device frame e sending.stands in
-    let same = merged plant routes plans bundles whole has.plan has.placed in
-    let now = subst (λ f. IsSending (setup_of plant bundles) device port f e w) (sym has.named) sending in record {
-      plan = has.plan;
-      placed = has.placed;
-      named = has.named;
-      sends = record {
-        stands = sym (same device) ∙ now.stands;
-        leaves = now.leaves;
-        sends = same_windows plant (setup_of plant bundles).blocks (alone plant has.plan).blocks has.plan.frame.0 same device w now.sends;
-      };
-    }
-
 pub record IsForwardedAlone (plant : Plant) (plans : List FramePlan) (device frame : ℕ) (e : Entry) (hop : ℕ) (w : SendWindow) : Type 0 where
   pub plan : FramePlan
   pub placed : Contains plans plan
   pub named : plan.frame.0 ≡ frame
   pub comes : IsForwarded (alone plant plan) device plan.frame.0 e hop w
 
-pub forwarded_alone : (plant : Plant) (routes : RouteTables) (plans : List FramePlan) (bundles : List Bundle) → IsWhole plant routes plans bundles →
-    (device frame : ℕ) (e : Entry) (hop : ℕ) (w : SendWindow) → IsForwarded (setup_of plant bundles) device frame e hop w → IsForwardedAlone plant plans device frame e hop w
-forwarded_alone plant routes plans bundles whole device frame e hop w comes =
-    let has = from_blocks plant routes plans bundles whole device frame e comes.stands in
-    let same = merged plant routes plans bundles whole has.plan has.placed in
-    let now = subst (λ f. IsForwarded (setup_of plant bundles) device f e hop w) (sym has.named) comes in record {
-      plan = has.plan;
-      placed = has.placed;
-      named = has.named;
-      comes = record {
-        parent = now.parent;
-        port = now.port;
-        stands = sym (same device) ∙ now.stands;
-        comes = record {
-          received = now.comes.received;
-          sent = (now.comes.sent.0, sym (same now.parent) ∙ now.comes.sent.1, now.comes.sent.2);
-          leads = now.comes.leads;
+module _ (plant : Plant) (routes : RouteTables) (plans : List FramePlan) (bundles : List Bundle) (whole : IsWhole plant routes plans bundles) where
+  pub shaped : (plan : FramePlan) → Contains plans plan → IsShaped plant routes plan
+  shaped plan has =
+      let (n, at) = place_of plans plan has in
+      shaped_at plant routes whole.fit.order (take n plans) n plan (whole.fit.placed n plan at)
+
+  pub from_blocks : (device frame : ℕ) (e : Entry) → entry_at (setup_of plant bundles) device frame ≡ Some e → IsPlacedEntry plans device frame e
+  from_blocks device frame e is =
+      let (block, here, holds) = bound (λ (b : FrameBlock). find (λ (x : Entry). x.frame.0 == frame) b.entries)
+      (slice_get (map (λ (b : Bundle). b.frames) bundles) device) e is in
+      let (b, at, same) = mapped (λ (b : Bundle). b.frames) (slice_get bundles device) block (sym (slice_get-map (λ (b : Bundle). b.frames) bundles device) ∙ here) in
+      let (n, stands, passes) = found_at (λ (x : Entry). x.frame.0 == frame) block.entries e holds in
+      let own = (held_at plant plans bundles whole.blocks device b at).is in
+      let (plan, placed, there) = own.entries.only e (contains_at b.frames.entries n e (ap (λ (f : FrameBlock). slice_get f.entries n) same ∙ stands)) in
+      let s = shaped plan placed in
+      let frames = entry_frame plant (parents_of routes s.index) s.demand s.ratio s.phase plan s.shape device e there in
+      record { plan = plan; placed = placed; there = there; named = sym (ap (λ (f : FrameId). f.0) frames) ∙ eqb-true e.frame.0 frame passes }
+
+  pub to_blocks : (plan : FramePlan) → Contains plans plan → (device : ℕ) (e : Entry) → entry_of plan device ≡ Some e →
+      entry_at (setup_of plant bundles) device plan.frame.0 ≡ Some e
+  to_blocks plan placed device e is =
+      let s = shaped plan placed in
+      let within : device < length bundles = omega (arith, within_entries plan.entries device e is, s.shape.count, whole.blocks.count) in
+      let (b, at) = some_at bundles device within in
+      let own = (held_at plant plans bundles whole.blocks device b at).is in
+      let (n, stands) = place_of b.frames.entries e (own.entries.all plan e placed is) in
+      let named = ap (λ (f : FrameId). f.0) (entry_frame plant (parents_of routes s.index) s.demand s.ratio s.phase plan s.shape device e is) in
+      let one = λ (m : ℕ) (g : Entry) (there : slice_get b.frames.entries m ≡ Some g) (passes : (g.frame.0 == plan.frame.0) ≡ true).
+      same_there plan placed device e is g (own.entries.only g (contains_at b.frames.entries m g there)) (eqb-true g.frame.0 plan.frame.0 passes) in
+      ap (option_and_then (λ (f : FrameBlock). find (λ (x : Entry). x.frame.0 == plan.frame.0) f.entries))
+      (slice_get-map (λ (x : Bundle). x.frames) bundles device ∙ ap (option_map (λ (x : Bundle). x.frames)) at)
+      ∙ find_one (λ (x : Entry). x.frame.0 == plan.frame.0) b.frames.entries n e stands (eq-eqb e.frame.0 plan.frame.0 named) one
+    where
+      same_there : (plan : FramePlan) → Contains plans plan → (device : ℕ) (e : Entry) → entry_of plan device ≡ Some e → (g : Entry) →
+          ((other : FramePlan) × Contains plans other × (entry_of other device ≡ Some g)) → g.frame.0 ≡ plan.frame.0 → g ≡ e
+      same_there plan placed device e is g (other, also, there) named =
+          let t = shaped other also in
+          let frames = ap (λ (f : FrameId). f.0) (entry_frame plant (parents_of routes t.index) t.demand t.ratio t.phase other t.shape device g there) in
+          let plans_same = same_plan plant routes whole.are.rules plans whole.fit other plan also placed (sym frames ∙ named) in
+          same_Some g e (sym there ∙ ap (λ (p : FramePlan). entry_of p device) plans_same ∙ is)
+
+  merged_at : (plan : FramePlan) → Contains plans plan → (device : ℕ) (o p : Option Entry) → entry_at (setup_of plant bundles) device plan.frame.0 ≡ o →
+      entry_at (alone plant plan) device plan.frame.0 ≡ p → o ≡ p
+  merged_at plan placed device None None is at = refl
+  merged_at plan placed device None (Some f) is at =
+      no_entry f (sym is ∙ to_blocks plan placed device f (entry_from plant plan.entries device plan.frame.0 f at))
+  merged_at plan placed device (Some e) p is at =
+      let s = shaped plan placed in
+      let has = from_blocks device plan.frame.0 e is in
+      let same = same_plan plant routes whole.are.rules plans whole.fit has.plan plan has.placed placed has.named in
+      let there = ap (λ (x : FramePlan). entry_of x device) (sym same) ∙ has.there in
+      sym (stands_alone plant (parents_of routes s.index) s.demand s.ratio s.phase plan s.shape device e there) ∙ at
+
+  pub merged : (plan : FramePlan) → Contains plans plan → (device : ℕ) →
+      entry_at (setup_of plant bundles) device plan.frame.0 ≡ entry_at (alone plant plan) device plan.frame.0
+  merged plan placed device = merged_at plan placed device _ _ refl refl
+
+  pub sent_alone : (device port frame : ℕ) (e : Entry) (w : SendWindow) → IsSending (setup_of plant bundles) device port frame e w → IsSentAlone plant plans device port frame e w
+  sent_alone device port frame e w sending =
+      let has = from_blocks device frame e sending.stands in
+      let same = merged has.plan has.placed in
+      let now = subst (λ f. IsSending (setup_of plant bundles) device port f e w) (sym has.named) sending in record {
+        plan = has.plan;
+        placed = has.placed;
+        named = has.named;
+        sends = record {
+          stands = sym (same device) ∙ now.stands;
+          leaves = now.leaves;
+          sends = same_windows plant (setup_of plant bundles).blocks (alone plant has.plan).blocks has.plan.frame.0 same device w now.sends;
         };
-        hops = now.hops;
-        sends = same_windows plant (setup_of plant bundles).blocks (alone plant has.plan).blocks has.plan.frame.0 same now.parent w now.sends;
-      };
-    }
+      }
+
+  pub forwarded_alone : (device frame : ℕ) (e : Entry) (hop : ℕ) (w : SendWindow) → IsForwarded (setup_of plant bundles) device frame e hop w → IsForwardedAlone plant plans device frame e hop w
+  forwarded_alone device frame e hop w comes =
+      let has = from_blocks device frame e comes.stands in
+      let same = merged has.plan has.placed in
+      let now = subst (λ f. IsForwarded (setup_of plant bundles) device f e hop w) (sym has.named) comes in record {
+        plan = has.plan;
+        placed = has.placed;
+        named = has.named;
+        comes = record {
+          parent = now.parent;
+          port = now.port;
+          stands = sym (same device) ∙ now.stands;
+          comes = record {
+            received = now.comes.received;
+            sent = (now.comes.sent.0, sym (same now.parent) ∙ now.comes.sent.1, now.comes.sent.2);
+            leads = now.comes.leads;
+          };
+          hops = now.hops;
+          sends = same_windows plant (setup_of plant bundles).blocks (alone plant has.plan).blocks has.plan.frame.0 same now.parent w now.sends;
+        };
+      }

@@ -95,79 +95,80 @@ one_order plant order other a b =
     (λ n i is. order_within plant order a n i is) (λ n i is. place_of other i (b.all i (order_within plant order a n i is)))
     (λ n i is. place_of order i (a.all i (order_within plant other b n i is)))
 
-same_place : Known → (plant : Plant) (routes : RouteTables) → IsRoutesOf plant routes → (order : List ℕ) (placed : List FramePlan) (n : ℕ) (p q : FramePlan) →
-    IsPlacedAt plant routes order placed n p → IsPlacedAt plant routes order placed n q → p ≡ q
-same_place known plant routes are order placed n p q a b =
-    let index : b.index ≡ a.index = same_Some b.index a.index (sym b.next ∙ a.next) in
-    let demand : b.demand ≡ a.demand = same_Some b.demand a.demand (sym b.there ∙ ap (slice_get plant.demands) index ∙ a.there) in
-    one_first_fit plant (parents_of routes a.index) a.demand (routed_at known plant routes a.index a.demand are a.there) placed p q a.fit
-    (subst (λ d. IsFirstFit plant (parents_of routes a.index) placed d q) demand (subst (λ i. IsFirstFit plant (parents_of routes i) placed b.demand q) index b.fit))
-
 take_next : (xs : List FramePlan) (n : ℕ) (x : FramePlan) → slice_get xs n ≡ Some x → take (n + 1) xs ≡ take n xs ++ x ∷ []
 take_next xs n x is =
     take_more xs n x (slice_get_within xs n x is) ∙ ap (λ y. take n xs ++ y ∷ []) (get_or_from_slice_get xs n x x is)
 
--- what is placed first agrees
-pub same_fronts : Known → (plant : Plant) (routes : RouteTables) → IsRoutesOf plant routes → (order : List ℕ) (ps qs : List FramePlan) →
-    ArePlaced plant routes order ps → ArePlaced plant routes order qs → (n : ℕ) → n ≤ length ps → n ≤ length qs → take n ps ≡ take n qs
-same_fronts known plant routes are order ps qs a b zero first second = refl
-same_fronts known plant routes are order ps qs a b (suc n) first second =
-    let before = same_fronts known plant routes are order ps qs a b n (omega arith) (omega arith) in
-    let (p, is) = some_at ps n (omega arith) in
-    let (q, at) = some_at qs n (omega arith) in
-    let same = same_place known plant routes are order (take n ps) n p q (a n p is)
-    (subst (λ placed. IsPlacedAt plant routes order placed n q) (sym before) (b n q at)) in
-    let next : n + 1 ≡ suc n = omega arith in
-    subst (λ m. take m ps ≡ take m qs) next (take_next ps n p is ∙ (λ i. before i ++ same i ∷ []) ∙ sym (take_next qs n q at))
+module _ (known : Known) (plant : Plant) (routes : RouteTables) (are : IsRoutesOf plant routes) where
+  same_place : (order : List ℕ) (placed : List FramePlan) (n : ℕ) (p q : FramePlan) →
+      IsPlacedAt plant routes order placed n p → IsPlacedAt plant routes order placed n q → p ≡ q
+  same_place order placed n p q a b =
+      let index : b.index ≡ a.index = same_Some b.index a.index (sym b.next ∙ a.next) in
+      let demand : b.demand ≡ a.demand = same_Some b.demand a.demand (sym b.there ∙ ap (slice_get plant.demands) index ∙ a.there) in
+      one_first_fit plant (parents_of routes a.index) a.demand (routed_at known plant routes a.index a.demand are a.there) placed p q a.fit
+      (subst (λ d. IsFirstFit plant (parents_of routes a.index) placed d q) demand (subst (λ i. IsFirstFit plant (parents_of routes i) placed b.demand q) index b.fit))
 
-pub one_fit : Known → (plant : Plant) (routes : RouteTables) → IsRoutesOf plant routes → (ps qs : List FramePlan) → IsFit plant routes ps → IsFit plant routes qs → ps ≡ qs
-one_fit known plant routes are ps qs a b =
-    let order = one_order plant b.order a.order b.is_order a.is_order in
-    let also = subst (λ o. ArePlaced plant routes o qs) order b.placed in
-    let long : length ps ≡ length qs = a.all ∙ ap length (sym order) ∙ sym b.all in
-    let front = same_fronts known plant routes are a.order ps qs a.placed also (length ps) (omega arith) (omega arith) in
-    sym (take_all (length ps) ps (omega arith)) ∙ front ∙ take_all (length ps) qs (omega arith)
+  -- what is placed first agrees
+  pub same_fronts : (order : List ℕ) (ps qs : List FramePlan) →
+      ArePlaced plant routes order ps → ArePlaced plant routes order qs → (n : ℕ) → n ≤ length ps → n ≤ length qs → take n ps ≡ take n qs
+  same_fronts order ps qs a b zero first second = refl
+  same_fronts order ps qs a b (suc n) first second =
+      let before = same_fronts order ps qs a b n (omega arith) (omega arith) in
+      let (p, is) = some_at ps n (omega arith) in
+      let (q, at) = some_at qs n (omega arith) in
+      let same = same_place order (take n ps) n p q (a n p is)
+      (subst (λ placed. IsPlacedAt plant routes order placed n q) (sym before) (b n q at)) in
+      let next : n + 1 ≡ suc n = omega arith in
+      subst (λ m. take m ps ≡ take m qs) next (take_next ps n p is ∙ (λ i. before i ++ same i ∷ []) ∙ sym (take_next qs n q at))
 
--- no plan stands where first fit overruns
-none_after : Known → (plant : Plant) (routes : RouteTables) → IsRoutesOf plant routes → (order : List ℕ) (ps qs : List FramePlan) → ArePlaced plant routes order ps →
-    ArePlaced plant routes order qs → (index : ℕ) (demand : Demand) → slice_get order (length qs) ≡ Some index → IsDemandAt plant index demand →
-    HasNoFit plant (parents_of routes index) qs demand → length qs < length ps → ⊥
-none_after known plant routes are order ps qs a b index demand next there none more =
-    let n = length qs in
-    let (p, is) = some_at ps n more in
-    let has = a n p is in
-    let front : take n ps ≡ qs = same_fronts known plant routes are order ps qs a b n (omega arith) (omega arith) ∙ take_all n qs (omega arith) in
-    let same : has.index ≡ index = same_Some has.index index (sym has.next ∙ next) in
-    let demands : has.demand ≡ demand = same_Some has.demand demand (sym has.there ∙ ap (slice_get plant.demands) same ∙ there) in
-    let fit : IsFirstFit plant (parents_of routes index) qs demand p =
-    subst (λ d. IsFirstFit plant (parents_of routes index) qs d p) demands
-    (subst (λ i. IsFirstFit plant (parents_of routes i) qs has.demand p) same
-    (subst (λ placed. IsFirstFit plant (parents_of routes has.index) placed has.demand p) front has.fit)) in
-    none fit.phase p fit.is
+  pub one_fit : (ps qs : List FramePlan) → IsFit plant routes ps → IsFit plant routes qs → ps ≡ qs
+  one_fit ps qs a b =
+      let order = one_order plant b.order a.order b.is_order a.is_order in
+      let also = subst (λ o. ArePlaced plant routes o qs) order b.placed in
+      let long : length ps ≡ length qs = a.all ∙ ap length (sym order) ∙ sym b.all in
+      let front = same_fronts a.order ps qs a.placed also (length ps) (omega arith) (omega arith) in
+      sym (take_all (length ps) ps (omega arith)) ∙ front ∙ take_all (length ps) qs (omega arith)
 
-pub no_overrun : Known → (plant : Plant) (routes : RouteTables) → IsRoutesOf plant routes → (ps : List FramePlan) (frame : FrameId) → IsFit plant routes ps → IsOverrun plant routes frame → ⊥
-no_overrun known plant routes are ps frame fit over =
-    let order = one_order plant over.order fit.order over.is_order fit.is_order in
-    let placed = subst (λ o. ArePlaced plant routes o over.plans) order over.placed in
-    let next = subst (λ o. slice_get o (length over.plans) ≡ Some over.index) order over.next in
-    none_after known plant routes are fit.order ps over.plans fit.placed placed over.index over.demand next over.there over.none
-    (omega (arith, slice_get_within fit.order (length over.plans) over.index next, fit.all))
+  -- no plan stands where first fit overruns
+  none_after : (order : List ℕ) (ps qs : List FramePlan) → ArePlaced plant routes order ps →
+      ArePlaced plant routes order qs → (index : ℕ) (demand : Demand) → slice_get order (length qs) ≡ Some index → IsDemandAt plant index demand →
+      HasNoFit plant (parents_of routes index) qs demand → length qs < length ps → ⊥
+  none_after order ps qs a b index demand next there none more =
+      let n = length qs in
+      let (p, is) = some_at ps n more in
+      let has = a n p is in
+      let front : take n ps ≡ qs = same_fronts order ps qs a b n (omega arith) (omega arith) ∙ take_all n qs (omega arith) in
+      let same : has.index ≡ index = same_Some has.index index (sym has.next ∙ next) in
+      let demands : has.demand ≡ demand = same_Some has.demand demand (sym has.there ∙ ap (slice_get plant.demands) same ∙ there) in
+      let fit : IsFirstFit plant (parents_of routes index) qs demand p =
+      subst (λ d. IsFirstFit plant (parents_of routes index) qs d p) demands
+      (subst (λ i. IsFirstFit plant (parents_of routes i) qs has.demand p) same
+      (subst (λ placed. IsFirstFit plant (parents_of routes has.index) placed has.demand p) front has.fit)) in
+      none fit.phase p fit.is
 
-pub one_overrun : Known → (plant : Plant) (routes : RouteTables) → IsRoutesOf plant routes → (frame other : FrameId) → IsOverrun plant routes frame → IsOverrun plant routes other → frame ≡ other
-one_overrun known plant routes are frame other a b =
-    let order = one_order plant b.order a.order b.is_order a.is_order in
-    let placed = subst (λ o. ArePlaced plant routes o b.plans) order b.placed in
-    let next = subst (λ o. slice_get o (length b.plans) ≡ Some b.index) order b.next in
-    elim (cases_order (length a.plans) (length b.plans)) [
-      | inl same ↦
-          let index : a.index ≡ b.index = same_Some a.index b.index (sym a.next ∙ ap (slice_get a.order) same ∙ next) in
-          let demand : a.demand ≡ b.demand = same_Some a.demand b.demand (sym a.there ∙ ap (slice_get plant.demands) index ∙ b.there) in
-          sym a.named ∙ ap (λ (d : Demand). d.frame) demand ∙ b.named
-      | inr (inl less) ↦ absurd (none_after known plant routes are a.order b.plans a.plans placed a.placed a.index a.demand a.next a.there a.none less)
-      | inr (inr more) ↦ absurd (none_after known plant routes are a.order a.plans b.plans a.placed placed b.index b.demand next b.there b.none more)
-    ]
+  pub no_overrun : (ps : List FramePlan) (frame : FrameId) → IsFit plant routes ps → IsOverrun plant routes frame → ⊥
+  no_overrun ps frame fit over =
+      let order = one_order plant over.order fit.order over.is_order fit.is_order in
+      let placed = subst (λ o. ArePlaced plant routes o over.plans) order over.placed in
+      let next = subst (λ o. slice_get o (length over.plans) ≡ Some over.index) order over.next in
+      none_after fit.order ps over.plans fit.placed placed over.index over.demand next over.there over.none
+      (omega (arith, slice_get_within fit.order (length over.plans) over.index next, fit.all))
 
-pub one_first_fit_of : Known → (plant : Plant) (routes : RouteTables) → IsRoutesOf plant routes → (xs ys : List Bundle) → AreFirstFit plant routes xs → AreFirstFit plant routes ys → xs ≡ ys
-one_first_fit_of known plant routes are xs ys a b =
-    let plans = one_fit known plant routes are b.plans a.plans b.fit a.fit in
-    same_bundles plant a.plans xs ys a.blocks (subst (λ ps. AreBundlesOf plant ps ys) plans b.blocks)
+  pub one_overrun : (frame other : FrameId) → IsOverrun plant routes frame → IsOverrun plant routes other → frame ≡ other
+  one_overrun frame other a b =
+      let order = one_order plant b.order a.order b.is_order a.is_order in
+      let placed = subst (λ o. ArePlaced plant routes o b.plans) order b.placed in
+      let next = subst (λ o. slice_get o (length b.plans) ≡ Some b.index) order b.next in
+      elim (cases_order (length a.plans) (length b.plans)) [
+        | inl same ↦
+            let index : a.index ≡ b.index = same_Some a.index b.index (sym a.next ∙ ap (slice_get a.order) same ∙ next) in
+            let demand : a.demand ≡ b.demand = same_Some a.demand b.demand (sym a.there ∙ ap (slice_get plant.demands) index ∙ b.there) in
+            sym a.named ∙ ap (λ (d : Demand). d.frame) demand ∙ b.named
+        | inr (inl less) ↦ absurd (none_after a.order b.plans a.plans placed a.placed a.index a.demand a.next a.there a.none less)
+        | inr (inr more) ↦ absurd (none_after a.order a.plans b.plans a.placed placed b.index b.demand next b.there b.none more)
+      ]
+
+  pub one_first_fit_of : (xs ys : List Bundle) → AreFirstFit plant routes xs → AreFirstFit plant routes ys → xs ≡ ys
+  one_first_fit_of xs ys a b =
+      let plans = one_fit b.plans a.plans b.fit a.fit in
+      same_bundles plant a.plans xs ys a.blocks (subst (λ ps. AreBundlesOf plant ps ys) plans b.blocks)

@@ -141,45 +141,6 @@ made parents demand ratio phase device rx = record {
   tx = bits_of (has_bit parents demand device) 8;
 }
 
--- ports that send are ports of the plant
-sent_low : (plant : Plant) (parents : Parents) (demand : Demand) → IsRouted plant parents demand → (device port : ℕ) → IsSentBy parents device port → port < 8
-sent_low plant parents demand routed device port (child, at) =
-    let step = step_of plant parents demand routed child (record { 0 = device }, record { 0 = port }) at in
-    let p = peer_port plant routed.rules device port step.step.step.far step.step.step.over in
-    let ports = (each_at IsDevice plant.devices device p.d routed.rules.devices p.held).port_count in
-    omega (arith, p.within.1, ports.1)
-
-sent_bits : (plant : Plant) (parents : Parents) (demand : Demand) → IsRouted plant parents demand → (device port : ℕ) → 1 ≤ port →
-    IsBitSet (bits_of (has_bit parents demand device) 8) port ↔ IsSentBy parents device port
-sent_bits plant parents demand routed device zero one = absurd (omega arith)
-sent_bits plant parents demand routed device (suc port) one = (
-  λ set. sent_child device (suc port) parents (set_passes (has_bit parents demand device) (suc port) (set_below (has_bit parents demand device) (suc port) set) set),
-  λ sent. passes_set (has_bit parents demand device) (suc port) (sent_low plant parents demand routed device (suc port) sent)
-      (child_sent device (suc port) parents sent.0 sent.1),
-)
-
-made_entry : (plant : Plant) (parents : Parents) (demand : Demand) → IsRouted plant parents demand → (ratio phase device rx : ℕ) → IsOn demand parents device →
-    (device ≡ demand.provider.0 → rx ≡ 0) →
-    ((from : DevId × PortNo) → parent_at parents device ≡ Some from → IsReceivedFrom plant device (made parents demand ratio phase device rx) from) →
-    IsEntryOf plant parents demand ratio phase device (made parents demand ratio phase device rx)
-made_entry plant parents demand routed ratio phase device rx on provided received = record {
-  on = on;
-  frame = refl;
-  length = refl;
-  ratio_is = refl;
-  phase_is = refl;
-  provided = provided;
-  received = received;
-  sent = sent_bits plant parents demand routed device;
-  kept = (
-    λ set. (let (n, at) = kept_place device demand.consumers (set_passes (has_bit parents demand device) 0 (omega arith) set) in
-        contains_at demand.consumers n (record { 0 = device }) at),
-    λ consumes. (let (n, at) = place_of demand.consumers (record { 0 = device }) consumes in
-        passes_set (has_bit parents demand device) 0 (omega arith) (place_kept device demand.consumers n at)),
-  );
-  small = bits_small (has_bit parents demand device) 8;
-}
-
 -- the entry of a device that is no provider, by its parent
 abbrev made_from : Plant → Parents → Demand → ℕ → ℕ → ℕ → Option (DevId × PortNo) → Option Entry
 made_from plant parents demand ratio phase device None = None
@@ -213,91 +174,8 @@ abbrev made_plan : Plant → Parents → Demand → ℕ → ℕ → FramePlan
 made_plan plant parents demand ratio phase =
     record { frame = demand.frame; entries = listed (made_at plant parents demand ratio phase) 0 (length plant.devices) }
 
--- the link of a step comes to a port of the device
-far_received : (plant : Plant) (parents : Parents) (demand : Demand) → IsRouted plant parents demand → (ratio phase device : ℕ) (from far : DevId × PortNo) →
-    peer_of plant from.0.0 from.1.0 ≡ Some far → far.0.0 ≡ device → IsReceivedFrom plant device (made parents demand ratio phase device far.1.0) from
-far_received plant parents demand routed ratio phase device from far over there =
-    let back = routed.known.peers plant routed.rules from.0.0 from.1.0 far.0.0 far.1.0 over in
-    let port = peer_port plant routed.rules far.0.0 far.1.0 (record { 0 = from.0.0 }, record { 0 = from.1.0 }) back in
-    record { from_one = port.within.0; leads = over ∙ (λ i. Some (record { 0 = there i }, record { 0 = far.1.0 })) }
-
-made_is : (plant : Plant) (parents : Parents) (demand : Demand) → IsRouted plant parents demand → (ratio phase device : ℕ) (e : Entry) →
-    (o : Option (DevId × PortNo)) → parent_at parents device ≡ o → device ≢ demand.provider.0 →
-    made_from plant parents demand ratio phase device o ≡ Some e → IsEntryOf plant parents demand ratio phase device e × (e.send_offset ≡ 0)
-made_is plant parents demand routed ratio phase device e None at off is = no_entry e is
-made_is plant parents demand routed ratio phase device e (Some from) at off is =
-    let step = step_of plant parents demand routed device from at in
-    let far = step.step.step.far in
-    let over = step.step.step.over in
-    let same = same_Some (made parents demand ratio phase device far.1.0) e
-    (sym (ap (option_map (λ (x : DevId × PortNo). made parents demand ratio phase device x.1.0)) over) ∙ is) in
-    let entry = made_entry plant parents demand routed ratio phase device far.1.0 (inr (from, at)) (λ own. absurd (off own))
-    (λ other also. far_received plant parents demand routed ratio phase device other far
-    (ap (λ (x : DevId × PortNo). peer_of plant x.0.0 x.1.0) (same_Some other from (sym also ∙ at)) ∙ over) step.step.step.there) in
-    (subst (IsEntryOf plant parents demand ratio phase device) same entry, sym (ap (λ (x : Entry). x.send_offset) same))
-
-entry_made : (plant : Plant) (parents : Parents) (demand : Demand) → IsRouted plant parents demand → (ratio phase device : ℕ) (e : Entry) →
-    made_at plant parents demand ratio phase device ≡ Some e → IsEntryOf plant parents demand ratio phase device e × (e.send_offset ≡ 0)
-entry_made plant parents demand routed ratio phase device e is = elim (cases_Bool (device == demand.provider.0)) [
-  | inl own ↦
-      let provider = eqb-true device demand.provider.0 own in
-      let same = same_Some (made parents demand ratio phase device 0) e
-      (sym (cond-true (device == demand.provider.0) (Some (made parents demand ratio phase device 0)) _ own) ∙ is) in
-      let entry = made_entry plant parents demand routed ratio phase device 0 (inl provider) (λ _. refl)
-      (λ from at. absurd (routed.known.start (peer_of plant) demand.provider.0 demand.consumers from
-      (step_of plant parents demand routed demand.provider.0 from (subst (λ n. parent_at parents n ≡ Some from) provider at)))) in
-      (subst (IsEntryOf plant parents demand ratio phase device) same entry, sym (ap (λ (x : Entry). x.send_offset) same))
-  | inr other ↦
-      made_is plant parents demand routed ratio phase device e (parent_at parents device) refl (λ own. both_ways _ other (eq-eqb device demand.provider.0 own))
-      (sym (cond-false (device == demand.provider.0) (Some (made parents demand ratio phase device 0)) _ other) ∙ is)
-]
-
-on_within : (plant : Plant) (parents : Parents) (demand : Demand) → IsRouted plant parents demand → (device : ℕ) → IsOn demand parents device → device < length plant.devices
-on_within plant parents demand routed device (inl own) = subst (λ n. n < length plant.devices) (sym own) routed.valid.provider
-on_within plant parents demand routed device (inr (from, at)) =
-    let step = (step_of plant parents demand routed device from at).step.step in
-    let back = routed.known.peers plant routed.rules from.0.0 from.1.0 step.far.0.0 step.far.1.0 step.over in
-    let port = peer_port plant routed.rules step.far.0.0 step.far.1.0 (record { 0 = from.0.0 }, record { 0 = from.1.0 }) back in
-    subst (λ n. n < length plant.devices) step.there (slice_get_within plant.devices step.far.0.0 port.d port.held)
-
-made_full : (plant : Plant) (parents : Parents) (demand : Demand) → IsRouted plant parents demand → (ratio phase device : ℕ) → IsOn demand parents device →
-    (e : Entry) × (made_at plant parents demand ratio phase device ≡ Some e)
-made_full plant parents demand routed ratio phase device on = elim (cases_Bool (device == demand.provider.0)) [
-  | inl own ↦ (made parents demand ratio phase device 0, cond-true (device == demand.provider.0) (Some (made parents demand ratio phase device 0)) _ own)
-  | inr other ↦ go on other
-]
-  where
-    go : IsOn demand parents device → (device == demand.provider.0) ≡ false → (e : Entry) × (made_at plant parents demand ratio phase device ≡ Some e)
-    go (inl own) other = absurd (both_ways _ other (eq-eqb device demand.provider.0 own))
-    go (inr (from, at)) other =
-        let step = (step_of plant parents demand routed device from at).step.step in (
-          made parents demand ratio phase device step.far.1.0,
-          cond-false (device == demand.provider.0) (Some (made parents demand ratio phase device 0)) _ other
-              ∙ ap (made_from plant parents demand ratio phase device) at
-              ∙ ap (option_map (λ (x : DevId × PortNo). made parents demand ratio phase device x.1.0)) step.over,
-        )
-
 abbrev pub ShapedPlan : Plant → Parents → Demand → ℕ → ℕ → Type 0
 ShapedPlan plant parents demand ratio phase = (plan : FramePlan) × HasShape plant parents demand ratio phase plan
-
--- each demand has a shape
-pub some_shape : (plant : Plant) (parents : Parents) (demand : Demand) → IsRouted plant parents demand → (ratio phase : ℕ) → ShapedPlan plant parents demand ratio phase
-some_shape plant parents demand routed ratio phase =
-    let devices = length plant.devices in
-    let entry = made_at plant parents demand ratio phase in
-    let there = λ (device : ℕ) (e : Entry) (is : entry_of (made_plan plant parents demand ratio phase) device ≡ Some e).
-    entry_made plant parents demand routed ratio phase device e (sym (listed_at entry 0 devices device (listed_within entry 0 devices device e is) ∙ ap entry (zero-add device)) ∙ is) in (
-      made_plan plant parents demand ratio phase,
-      record {
-        frame = refl;
-        count = length-listed entry 0 devices;
-        each = λ device e is. (there device e is).0;
-        full = λ device on.
-            let (e, is) = made_full plant parents demand routed ratio phase device on in
-            (e, listed_at entry 0 devices device (on_within plant parents demand routed device on) ∙ ap entry (zero-add device) ∙ is);
-        idle = λ device e is idle. (there device e is).1;
-      },
-    )
 
 abbrev Fits : Plant → Demand → ℕ → Type 0
 Fits plant demand ratio = ratio * cycle_time plant.factor ≤ demand.update
@@ -356,3 +234,126 @@ some_ratio plant demand update =
         ]
       ]
     ]
+
+module _ (plant : Plant) (parents : Parents) (demand : Demand) (routed : IsRouted plant parents demand) where
+  -- ports that send are ports of the plant
+  sent_low : (device port : ℕ) → IsSentBy parents device port → port < 8
+  sent_low device port (child, at) =
+      let step = step_of plant parents demand routed child (record { 0 = device }, record { 0 = port }) at in
+      let p = peer_port plant routed.rules device port step.step.step.far step.step.step.over in
+      let ports = (each_at IsDevice plant.devices device p.d routed.rules.devices p.held).port_count in
+      omega (arith, p.within.1, ports.1)
+
+  sent_bits : (device port : ℕ) → 1 ≤ port →
+      IsBitSet (bits_of (has_bit parents demand device) 8) port ↔ IsSentBy parents device port
+  sent_bits device zero one = absurd (omega arith)
+  sent_bits device (suc port) one = (
+    λ set. sent_child device (suc port) parents (set_passes (has_bit parents demand device) (suc port) (set_below (has_bit parents demand device) (suc port) set) set),
+    λ sent. passes_set (has_bit parents demand device) (suc port) (sent_low device (suc port) sent)
+        (child_sent device (suc port) parents sent.0 sent.1),
+  )
+
+  made_entry : (ratio phase device rx : ℕ) → IsOn demand parents device →
+      (device ≡ demand.provider.0 → rx ≡ 0) →
+      ((from : DevId × PortNo) → parent_at parents device ≡ Some from → IsReceivedFrom plant device (made parents demand ratio phase device rx) from) →
+      IsEntryOf plant parents demand ratio phase device (made parents demand ratio phase device rx)
+  made_entry ratio phase device rx on provided received = record {
+    on = on;
+    frame = refl;
+    length = refl;
+    ratio_is = refl;
+    phase_is = refl;
+    provided = provided;
+    received = received;
+    sent = sent_bits device;
+    kept = (
+      λ set. (let (n, at) = kept_place device demand.consumers (set_passes (has_bit parents demand device) 0 (omega arith) set) in
+          contains_at demand.consumers n (record { 0 = device }) at),
+      λ consumes. (let (n, at) = place_of demand.consumers (record { 0 = device }) consumes in
+          passes_set (has_bit parents demand device) 0 (omega arith) (place_kept device demand.consumers n at)),
+    );
+    small = bits_small (has_bit parents demand device) 8;
+  }
+
+  -- the link of a step comes to a port of the device
+  far_received : (ratio phase device : ℕ) (from far : DevId × PortNo) →
+      peer_of plant from.0.0 from.1.0 ≡ Some far → far.0.0 ≡ device → IsReceivedFrom plant device (made parents demand ratio phase device far.1.0) from
+  far_received ratio phase device from far over there =
+      let back = routed.known.peers plant routed.rules from.0.0 from.1.0 far.0.0 far.1.0 over in
+      let port = peer_port plant routed.rules far.0.0 far.1.0 (record { 0 = from.0.0 }, record { 0 = from.1.0 }) back in
+      record { from_one = port.within.0; leads = over ∙ (λ i. Some (record { 0 = there i }, record { 0 = far.1.0 })) }
+
+  made_is : (ratio phase device : ℕ) (e : Entry) →
+      (o : Option (DevId × PortNo)) → parent_at parents device ≡ o → device ≢ demand.provider.0 →
+      made_from plant parents demand ratio phase device o ≡ Some e → IsEntryOf plant parents demand ratio phase device e × (e.send_offset ≡ 0)
+  made_is ratio phase device e None at off is = no_entry e is
+  made_is ratio phase device e (Some from) at off is =
+      let step = step_of plant parents demand routed device from at in
+      let far = step.step.step.far in
+      let over = step.step.step.over in
+      let same = same_Some (made parents demand ratio phase device far.1.0) e
+      (sym (ap (option_map (λ (x : DevId × PortNo). made parents demand ratio phase device x.1.0)) over) ∙ is) in
+      let entry = made_entry ratio phase device far.1.0 (inr (from, at)) (λ own. absurd (off own))
+      (λ other also. far_received ratio phase device other far
+      (ap (λ (x : DevId × PortNo). peer_of plant x.0.0 x.1.0) (same_Some other from (sym also ∙ at)) ∙ over) step.step.step.there) in
+      (subst (IsEntryOf plant parents demand ratio phase device) same entry, sym (ap (λ (x : Entry). x.send_offset) same))
+
+  entry_made : (ratio phase device : ℕ) (e : Entry) →
+      made_at plant parents demand ratio phase device ≡ Some e → IsEntryOf plant parents demand ratio phase device e × (e.send_offset ≡ 0)
+  entry_made ratio phase device e is = elim (cases_Bool (device == demand.provider.0)) [
+    | inl own ↦
+        let provider = eqb-true device demand.provider.0 own in
+        let same = same_Some (made parents demand ratio phase device 0) e
+        (sym (cond-true (device == demand.provider.0) (Some (made parents demand ratio phase device 0)) _ own) ∙ is) in
+        let entry = made_entry ratio phase device 0 (inl provider) (λ _. refl)
+        (λ from at. absurd (routed.known.start (peer_of plant) demand.provider.0 demand.consumers from
+        (step_of plant parents demand routed demand.provider.0 from (subst (λ n. parent_at parents n ≡ Some from) provider at)))) in
+        (subst (IsEntryOf plant parents demand ratio phase device) same entry, sym (ap (λ (x : Entry). x.send_offset) same))
+    | inr other ↦
+        made_is ratio phase device e (parent_at parents device) refl (λ own. both_ways _ other (eq-eqb device demand.provider.0 own))
+        (sym (cond-false (device == demand.provider.0) (Some (made parents demand ratio phase device 0)) _ other) ∙ is)
+  ]
+
+  on_within : (device : ℕ) → IsOn demand parents device → device < length plant.devices
+  on_within device (inl own) = subst (λ n. n < length plant.devices) (sym own) routed.valid.provider
+  on_within device (inr (from, at)) =
+      let step = (step_of plant parents demand routed device from at).step.step in
+      let back = routed.known.peers plant routed.rules from.0.0 from.1.0 step.far.0.0 step.far.1.0 step.over in
+      let port = peer_port plant routed.rules step.far.0.0 step.far.1.0 (record { 0 = from.0.0 }, record { 0 = from.1.0 }) back in
+      subst (λ n. n < length plant.devices) step.there (slice_get_within plant.devices step.far.0.0 port.d port.held)
+
+  made_full : (ratio phase device : ℕ) → IsOn demand parents device →
+      (e : Entry) × (made_at plant parents demand ratio phase device ≡ Some e)
+  made_full ratio phase device on = elim (cases_Bool (device == demand.provider.0)) [
+    | inl own ↦ (made parents demand ratio phase device 0, cond-true (device == demand.provider.0) (Some (made parents demand ratio phase device 0)) _ own)
+    | inr other ↦ go on other
+  ]
+    where
+      go : IsOn demand parents device → (device == demand.provider.0) ≡ false → (e : Entry) × (made_at plant parents demand ratio phase device ≡ Some e)
+      go (inl own) other = absurd (both_ways _ other (eq-eqb device demand.provider.0 own))
+      go (inr (from, at)) other =
+          let step = (step_of plant parents demand routed device from at).step.step in (
+            made parents demand ratio phase device step.far.1.0,
+            cond-false (device == demand.provider.0) (Some (made parents demand ratio phase device 0)) _ other
+                ∙ ap (made_from plant parents demand ratio phase device) at
+                ∙ ap (option_map (λ (x : DevId × PortNo). made parents demand ratio phase device x.1.0)) step.over,
+          )
+
+  -- each demand has a shape
+  pub some_shape : (ratio phase : ℕ) → ShapedPlan plant parents demand ratio phase
+  some_shape ratio phase =
+      let devices = length plant.devices in
+      let entry = made_at plant parents demand ratio phase in
+      let there = λ (device : ℕ) (e : Entry) (is : entry_of (made_plan plant parents demand ratio phase) device ≡ Some e).
+      entry_made ratio phase device e (sym (listed_at entry 0 devices device (listed_within entry 0 devices device e is) ∙ ap entry (zero-add device)) ∙ is) in (
+        made_plan plant parents demand ratio phase,
+        record {
+          frame = refl;
+          count = length-listed entry 0 devices;
+          each = λ device e is. (there device e is).0;
+          full = λ device on.
+              let (e, is) = made_full ratio phase device on in
+              (e, listed_at entry 0 devices device (on_within device on) ∙ ap entry (zero-add device) ∙ is);
+          idle = λ device e is idle. (there device e is).1;
+        },
+      )
