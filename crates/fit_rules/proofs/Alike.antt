@@ -22,65 +22,6 @@ use Rattle.fit_rules.proofs.Bytes.{same_bytes}
 use Rattle.fit_rules.proofs.Entries.{entry_in, no_entry, entry_from, entry_stands}
 use Rattle.fit_rules.proofs.Sliding.{Twin, HasTwins, HasOffset, alike_leaves, alike_parent, alike_self, flipped, slides, moved_offset}
 
--- entries of one device in two plans of one shape
-same_rx : (plant : Plant) (parents : Parents) (demand : Demand) (ratio phase device : ℕ) (e g : Entry) →
-    IsEntryOf plant parents demand ratio phase device e → IsEntryOf plant parents demand ratio phase device g → IsOn demand parents device → g.rx_port ≡ e.rx_port
-same_rx plant parents demand ratio phase device e g first second (inl own) = second.provided own ∙ sym (first.provided own)
-same_rx plant parents demand ratio phase device e g first second (inr (from, at)) =
-    ap (λ (x : DevId × PortNo). x.1.0) (same_Some (let x : DevId × PortNo = (record { 0 = device }, record { 0 = g.rx_port }) in x) _
-    (sym (second.received from at).leads ∙ (first.received from at).leads))
-
-same_bits : (plant : Plant) (parents : Parents) (demand : Demand) (ratio phase device : ℕ) (e g : Entry) →
-    IsEntryOf plant parents demand ratio phase device e → IsEntryOf plant parents demand ratio phase device g → (k : ℕ) → IsBitSet g.tx k → IsBitSet e.tx k
-same_bits plant parents demand ratio phase device e g first second zero bit = first.kept.1 (second.kept.0 bit)
-same_bits plant parents demand ratio phase device e g first second (suc k) bit = (first.sent (suc k) (omega arith)).1 ((second.sent (suc k) (omega arith)).0 bit)
-
-pub same_entry : (plant : Plant) (parents : Parents) (demand : Demand) (ratio phase device : ℕ) (e g : Entry) →
-    IsEntryOf plant parents demand ratio phase device e → IsEntryOf plant parents demand ratio phase device g → IsAlike e g
-same_entry plant parents demand ratio phase device e g first second = record {
-  frame = second.frame ∙ sym first.frame;
-  length = second.length ∙ sym first.length;
-  ratio = second.ratio_is ∙ sym first.ratio_is;
-  phase = second.phase_is ∙ sym first.phase_is;
-  rx_port = same_rx plant parents demand ratio phase device e g first second first.on;
-  tx =
-      same_bytes g.tx e.tx (λ k. (
-        same_bits plant parents demand ratio phase device e g first second k,
-        same_bits plant parents demand ratio phase device g e second first k,
-      ));
-}
-
--- the frame of an entry that stands
-pub entry_frame : (plant : Plant) (parents : Parents) (demand : Demand) (ratio phase : ℕ) (plan : FramePlan) → HasShape plant parents demand ratio phase plan →
-    (device : ℕ) (e : Entry) → entry_of plan device ≡ Some e → e.frame ≡ plan.frame
-entry_frame plant parents demand ratio phase plan shape device e is = (shape.each device e is).frame ∙ sym shape.frame
-
-pub stands_alone : (plant : Plant) (parents : Parents) (demand : Demand) (ratio phase : ℕ) (plan : FramePlan) → HasShape plant parents demand ratio phase plan →
-    (device : ℕ) (e : Entry) → entry_of plan device ≡ Some e → entry_at (alone plant plan) device plan.frame.0 ≡ Some e
-stands_alone plant parents demand ratio phase plan shape device e is =
-    entry_stands plant plan.entries device plan.frame.0 e is (ap (λ (f : FrameId). f.0) (entry_frame plant parents demand ratio phase plan shape device e is))
-
-pub twin_of : (plant : Plant) (parents : Parents) (demand : Demand) (ratio phase : ℕ) (plan other : FramePlan) →
-    HasShape plant parents demand ratio phase plan → HasShape plant parents demand ratio phase other →
-    (device : ℕ) (e : Entry) → entry_of plan device ≡ Some e → Twin (entry_of other device) e
-twin_of plant parents demand ratio phase plan other first second device e is =
-    let own = first.each device e is in
-    let (g, at) = second.full device own.on in
-    (g, at, same_entry plant parents demand ratio phase device e g own (second.each device g at))
-
-pub same_frame : (plant : Plant) (parents : Parents) (demand : Demand) (ratio phase : ℕ) (plan other : FramePlan) →
-    HasShape plant parents demand ratio phase plan → HasShape plant parents demand ratio phase other → plan.frame ≡ other.frame
-same_frame plant parents demand ratio phase plan other first second = first.frame ∙ sym second.frame
-
--- the other plan's twins, as setups have them
-pub twins_of : (plant : Plant) (parents : Parents) (demand : Demand) (ratio phase : ℕ) (plan other : FramePlan) →
-    HasShape plant parents demand ratio phase plan → HasShape plant parents demand ratio phase other →
-    HasTwins plant plan.frame.0 (alone plant plan).blocks (alone plant other).blocks
-twins_of plant parents demand ratio phase plan other first second device e is =
-    let (g, at, alike) = twin_of plant parents demand ratio phase plan other first second device e (entry_from plant plan.entries device plan.frame.0 e is) in
-    let stands = stands_alone plant parents demand ratio phase other second device g at in
-    (g, subst (λ (f : FrameId). entry_at (alone plant other) device f.0 ≡ Some g) (sym (same_frame plant parents demand ratio phase plan other first second)) stands, alike)
-
 alike_then : (e f g : Entry) → IsAlike e f → IsAlike f g → IsAlike e g
 alike_then e f g first second = record {
   frame = second.frame ∙ first.frame;
@@ -174,22 +115,6 @@ alike_room plant placed device port e g w alike room = record {
       ];
 }
 
--- What has room at an offset has it in every plan of the shape.
-pub clear_alike : (plant : Plant) (parents : Parents) (placed : List FramePlan) (demand : Demand) (ratio phase : ℕ) (plan other : FramePlan) →
-    HasShape plant parents demand ratio phase plan → HasShape plant parents demand ratio phase other →
-    (device offset : ℕ) → IsClearAt plant placed plan device offset → IsClearAt plant placed other device offset
-clear_alike plant parents placed demand ratio phase plan other first second anchor x clear device port g v using hangs =
-    let frames = same_frame plant parents demand ratio phase other plan second first in
-    let twins = moved_twins plant other.frame.0 other plan anchor x x (twins_of plant parents demand ratio phase other plan second first) in
-    let (e, at, alike) = twins device g using.stands in
-    let (w, sends, shifted) = slides plant (alone plant (moved other anchor x)).blocks (alone plant (moved plan anchor x)).blocks other.frame.0 anchor x x twins
-    (moved_offset plant other.frame.0 other.entries anchor x) (moved_offset plant other.frame.0 plan.entries anchor x) device v hangs using.sends in
-    let windows = same_window x v w shifted in
-    let now : IsSending (alone plant (moved plan anchor x)) device port other.frame.0 e v =
-    record { stands = at; leaves = alike_leaves g e port alike using.leaves; sends = subst (HasWindow (alone plant (moved plan anchor x)) other.frame.0 device) (sym windows) sends } in
-    let its : IsUsing plant (moved plan anchor x) device port e v = subst (λ (f : FrameId). IsSending (alone plant (moved plan anchor x)) device port f.0 e v) frames now in
-    alike_room plant placed device port e g v (flipped g e alike) (clear device port e v its hangs)
-
 -- a window hangs on an anchor
 pub anchor_entry : (s : Setup) (frame device : ℕ) (w : SendWindow) → HasWindow s frame device w →
     (e : Entry) × (entry_at s w.anchor frame ≡ Some e) × IsAnchor s w.anchor e
@@ -200,55 +125,131 @@ offset_of : (plant : Plant) (frame : ℕ) (plan : FramePlan) (device : ℕ) (e :
     offset_at plan device ≡ Some e.send_offset
 offset_of plant frame plan device e is = ap (option_map (λ (x : Entry). x.send_offset)) (entry_from plant plan.entries device frame e is)
 
--- Where the offsets at a window's anchor agree, it is the window of both plans.
-pub window_alike : (plant : Plant) (parents : Parents) (demand : Demand) (ratio phase : ℕ) (plan other : FramePlan) →
-    HasShape plant parents demand ratio phase plan → HasShape plant parents demand ratio phase other →
-    (device : ℕ) (w : SendWindow) → HasWindow (alone plant plan) plan.frame.0 device w → offset_at plan w.anchor ≡ offset_at other w.anchor →
-    HasWindow (alone plant other) plan.frame.0 device w
-window_alike plant parents demand ratio phase plan other first second device w sends agree =
-    let (own, at, is_anchor) = anchor_entry (alone plant plan) plan.frame.0 device w sends in
-    let x = own.send_offset in
-    let here : offset_at plan w.anchor ≡ Some x = offset_of plant plan.frame.0 plan w.anchor own at in
-    let before : HasOffset plant (alone plant plan).blocks plan.frame.0 w.anchor x =
-    λ e is. same_Some e.send_offset x (sym (offset_of plant plan.frame.0 plan w.anchor e is) ∙ here) in
-    let after : HasOffset plant (alone plant other).blocks plan.frame.0 w.anchor x =
-    λ e is. same_Some e.send_offset x (sym (offset_of plant plan.frame.0 other w.anchor e is) ∙ sym agree ∙ here) in
-    let (v, now, shifted) = slides plant (alone plant plan).blocks (alone plant other).blocks plan.frame.0 w.anchor x x
-    (twins_of plant parents demand ratio phase plan other first second) before after device w refl sends in
-    subst (HasWindow (alone plant other) plan.frame.0 device) (sym (same_window x w v shifted)) now
+module _ (plant : Plant) (parents : Parents) (demand : Demand) (ratio phase : ℕ) where
+  -- entries of one device in two plans of one shape
+  same_rx : (device : ℕ) (e g : Entry) →
+      IsEntryOf plant parents demand ratio phase device e → IsEntryOf plant parents demand ratio phase device g → IsOn demand parents device → g.rx_port ≡ e.rx_port
+  same_rx device e g first second (inl own) = second.provided own ∙ sym (first.provided own)
+  same_rx device e g first second (inr (from, at)) =
+      ap (λ (x : DevId × PortNo). x.1.0) (same_Some (let x : DevId × PortNo = (record { 0 = device }, record { 0 = g.rx_port }) in x) _
+      (sym (second.received from at).leads ∙ (first.received from at).leads))
 
-forwarded_alike : (plant : Plant) (parents : Parents) (demand : Demand) (ratio phase : ℕ) (plan other : FramePlan) →
-    HasShape plant parents demand ratio phase plan → HasShape plant parents demand ratio phase other →
-    (device : ℕ) (e g : Entry) → entry_of other device ≡ Some g → AgreeAbove plant plan other device e →
-    (hop : ℕ) (w : SendWindow) → IsForwarded (alone plant plan) device plan.frame.0 e hop w → IsForwarded (alone plant other) device other.frame.0 g hop w
-forwarded_alike plant parents demand ratio phase plan other first second device e g at agree hop w comes =
-    let twins = twins_of plant parents demand ratio phase plan other first second in
-    let (its, stands, alike) = twins device e comes.stands in
-    let same : its ≡ g = same_Some its g (sym (entry_from plant other.entries device plan.frame.0 its stands) ∙ at) in
-    let now : IsForwarded (alone plant other) device plan.frame.0 its hop w = record {
-      parent = comes.parent;
-      port = comes.port;
-      stands = stands;
-      comes = alike_parent plant (alone plant plan).blocks (alone plant other).blocks plan.frame.0 twins device e its comes.parent comes.port alike comes.comes;
-      hops = comes.hops;
-      sends = window_alike plant parents demand ratio phase plan other first second comes.parent w comes.sends (agree hop w comes);
-    } in
-    subst (λ (f : FrameId). IsForwarded (alone plant other) device f.0 g hop w) (same_frame plant parents demand ratio phase plan other first second)
-    (subst (λ x. IsForwarded (alone plant other) device plan.frame.0 x hop w) same now)
+  same_bits : (device : ℕ) (e g : Entry) →
+      IsEntryOf plant parents demand ratio phase device e → IsEntryOf plant parents demand ratio phase device g → (k : ℕ) → IsBitSet g.tx k → IsBitSet e.tx k
+  same_bits device e g first second zero bit = first.kept.1 (second.kept.0 bit)
+  same_bits device e g first second (suc k) bit = (first.sent (suc k) (omega arith)).1 ((second.sent (suc k) (omega arith)).0 bit)
 
-pub ready_alike : (plant : Plant) (parents : Parents) (demand : Demand) (ratio phase : ℕ) (plan other : FramePlan) →
-    HasShape plant parents demand ratio phase plan → HasShape plant parents demand ratio phase other →
-    (device : ℕ) (e g : Entry) → entry_of plan device ≡ Some e → entry_of other device ≡ Some g → AgreeAbove plant plan other device e →
-    (ready : ℕ) → IsReady plant plan device e ready → IsReady plant other device g ready
-ready_alike plant parents demand ratio phase plan other first second device e g is at agree ready (inl (own, zero_is)) =
-    let alike = same_entry plant parents demand ratio phase device e g (first.each device e is) (second.each device g at) in
-    inl (alike.rx_port ∙ own, zero_is)
-ready_alike plant parents demand ratio phase plan other first second device e g is at agree ready (inr when) =
-    inr (record {
-      hop = when.hop;
-      window = when.window;
-      d = when.d;
-      comes = forwarded_alike plant parents demand ratio phase plan other first second device e g at agree when.hop when.window when.comes;
-      held = when.held;
-      is = when.is;
-    })
+  pub same_entry : (device : ℕ) (e g : Entry) →
+      IsEntryOf plant parents demand ratio phase device e → IsEntryOf plant parents demand ratio phase device g → IsAlike e g
+  same_entry device e g first second = record {
+    frame = second.frame ∙ sym first.frame;
+    length = second.length ∙ sym first.length;
+    ratio = second.ratio_is ∙ sym first.ratio_is;
+    phase = second.phase_is ∙ sym first.phase_is;
+    rx_port = same_rx device e g first second first.on;
+    tx =
+        same_bytes g.tx e.tx (λ k. (
+          same_bits device e g first second k,
+          same_bits device g e second first k,
+        ));
+  }
+
+  -- the frame of an entry that stands
+  pub entry_frame : (plan : FramePlan) → HasShape plant parents demand ratio phase plan →
+      (device : ℕ) (e : Entry) → entry_of plan device ≡ Some e → e.frame ≡ plan.frame
+  entry_frame plan shape device e is = (shape.each device e is).frame ∙ sym shape.frame
+
+  pub stands_alone : (plan : FramePlan) → HasShape plant parents demand ratio phase plan →
+      (device : ℕ) (e : Entry) → entry_of plan device ≡ Some e → entry_at (alone plant plan) device plan.frame.0 ≡ Some e
+  stands_alone plan shape device e is =
+      entry_stands plant plan.entries device plan.frame.0 e is (ap (λ (f : FrameId). f.0) (entry_frame plan shape device e is))
+
+  pub twin_of : (plan other : FramePlan) →
+      HasShape plant parents demand ratio phase plan → HasShape plant parents demand ratio phase other →
+      (device : ℕ) (e : Entry) → entry_of plan device ≡ Some e → Twin (entry_of other device) e
+  twin_of plan other first second device e is =
+      let own = first.each device e is in
+      let (g, at) = second.full device own.on in
+      (g, at, same_entry device e g own (second.each device g at))
+
+  pub same_frame : (plan other : FramePlan) →
+      HasShape plant parents demand ratio phase plan → HasShape plant parents demand ratio phase other → plan.frame ≡ other.frame
+  same_frame plan other first second = first.frame ∙ sym second.frame
+
+  -- the other plan's twins, as setups have them
+  pub twins_of : (plan other : FramePlan) →
+      HasShape plant parents demand ratio phase plan → HasShape plant parents demand ratio phase other →
+      HasTwins plant plan.frame.0 (alone plant plan).blocks (alone plant other).blocks
+  twins_of plan other first second device e is =
+      let (g, at, alike) = twin_of plan other first second device e (entry_from plant plan.entries device plan.frame.0 e is) in
+      let stands = stands_alone other second device g at in
+      (g, subst (λ (f : FrameId). entry_at (alone plant other) device f.0 ≡ Some g) (sym (same_frame plan other first second)) stands, alike)
+
+  -- What has room at an offset has it in every plan of the shape.
+  pub clear_alike : (placed : List FramePlan) (plan other : FramePlan) →
+      HasShape plant parents demand ratio phase plan → HasShape plant parents demand ratio phase other →
+      (device offset : ℕ) → IsClearAt plant placed plan device offset → IsClearAt plant placed other device offset
+  clear_alike placed plan other first second anchor x clear device port g v using hangs =
+      let frames = same_frame other plan second first in
+      let twins = moved_twins plant other.frame.0 other plan anchor x x (twins_of other plan second first) in
+      let (e, at, alike) = twins device g using.stands in
+      let (w, sends, shifted) = slides plant (alone plant (moved other anchor x)).blocks (alone plant (moved plan anchor x)).blocks other.frame.0 anchor x x twins
+      (moved_offset plant other.frame.0 other.entries anchor x) (moved_offset plant other.frame.0 plan.entries anchor x) device v hangs using.sends in
+      let windows = same_window x v w shifted in
+      let now : IsSending (alone plant (moved plan anchor x)) device port other.frame.0 e v =
+      record { stands = at; leaves = alike_leaves g e port alike using.leaves; sends = subst (HasWindow (alone plant (moved plan anchor x)) other.frame.0 device) (sym windows) sends } in
+      let its : IsUsing plant (moved plan anchor x) device port e v = subst (λ (f : FrameId). IsSending (alone plant (moved plan anchor x)) device port f.0 e v) frames now in
+      alike_room plant placed device port e g v (flipped g e alike) (clear device port e v its hangs)
+
+  -- Where the offsets at a window's anchor agree, it is the window of both plans.
+  pub window_alike : (plan other : FramePlan) →
+      HasShape plant parents demand ratio phase plan → HasShape plant parents demand ratio phase other →
+      (device : ℕ) (w : SendWindow) → HasWindow (alone plant plan) plan.frame.0 device w → offset_at plan w.anchor ≡ offset_at other w.anchor →
+      HasWindow (alone plant other) plan.frame.0 device w
+  window_alike plan other first second device w sends agree =
+      let (own, at, is_anchor) = anchor_entry (alone plant plan) plan.frame.0 device w sends in
+      let x = own.send_offset in
+      let here : offset_at plan w.anchor ≡ Some x = offset_of plant plan.frame.0 plan w.anchor own at in
+      let before : HasOffset plant (alone plant plan).blocks plan.frame.0 w.anchor x =
+      λ e is. same_Some e.send_offset x (sym (offset_of plant plan.frame.0 plan w.anchor e is) ∙ here) in
+      let after : HasOffset plant (alone plant other).blocks plan.frame.0 w.anchor x =
+      λ e is. same_Some e.send_offset x (sym (offset_of plant plan.frame.0 other w.anchor e is) ∙ sym agree ∙ here) in
+      let (v, now, shifted) = slides plant (alone plant plan).blocks (alone plant other).blocks plan.frame.0 w.anchor x x
+      (twins_of plan other first second) before after device w refl sends in
+      subst (HasWindow (alone plant other) plan.frame.0 device) (sym (same_window x w v shifted)) now
+
+  forwarded_alike : (plan other : FramePlan) →
+      HasShape plant parents demand ratio phase plan → HasShape plant parents demand ratio phase other →
+      (device : ℕ) (e g : Entry) → entry_of other device ≡ Some g → AgreeAbove plant plan other device e →
+      (hop : ℕ) (w : SendWindow) → IsForwarded (alone plant plan) device plan.frame.0 e hop w → IsForwarded (alone plant other) device other.frame.0 g hop w
+  forwarded_alike plan other first second device e g at agree hop w comes =
+      let twins = twins_of plan other first second in
+      let (its, stands, alike) = twins device e comes.stands in
+      let same : its ≡ g = same_Some its g (sym (entry_from plant other.entries device plan.frame.0 its stands) ∙ at) in
+      let now : IsForwarded (alone plant other) device plan.frame.0 its hop w = record {
+        parent = comes.parent;
+        port = comes.port;
+        stands = stands;
+        comes = alike_parent plant (alone plant plan).blocks (alone plant other).blocks plan.frame.0 twins device e its comes.parent comes.port alike comes.comes;
+        hops = comes.hops;
+        sends = window_alike plan other first second comes.parent w comes.sends (agree hop w comes);
+      } in
+      subst (λ (f : FrameId). IsForwarded (alone plant other) device f.0 g hop w) (same_frame plan other first second)
+      (subst (λ x. IsForwarded (alone plant other) device plan.frame.0 x hop w) same now)
+
+  pub ready_alike : (plan other : FramePlan) →
+      HasShape plant parents demand ratio phase plan → HasShape plant parents demand ratio phase other →
+      (device : ℕ) (e g : Entry) → entry_of plan device ≡ Some e → entry_of other device ≡ Some g → AgreeAbove plant plan other device e →
+      (ready : ℕ) → IsReady plant plan device e ready → IsReady plant other device g ready
+  ready_alike plan other first second device e g is at agree ready (inl (own, zero_is)) =
+      let alike = same_entry device e g (first.each device e is) (second.each device g at) in
+      inl (alike.rx_port ∙ own, zero_is)
+  ready_alike plan other first second device e g is at agree ready (inr when) =
+      inr (record {
+        hop = when.hop;
+        window = when.window;
+        d = when.d;
+        comes = forwarded_alike plan other first second device e g at agree when.hop when.window when.comes;
+        held = when.held;
+        is = when.is;
+      })

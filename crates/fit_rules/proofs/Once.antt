@@ -64,8 +64,8 @@ fitted_alike plant parents demand routed placed ratio phase plan other first sec
     let moved = ready_alike plant parents demand ratio phase plan other first second device e g is at agree mine.ready mine.is_ready in
     let ready = same_ready plant parents demand routed other device g mine.ready its.ready moved its.is_ready in
     least_is_one (IsClearAt plant placed plan device) (IsClearAt plant placed other device) mine.ready e.send_offset g.send_offset
-    (clear_alike plant parents placed demand ratio phase plan other first second device)
-    (clear_alike plant parents placed demand ratio phase other plan second first device) mine.least
+    (clear_alike plant parents demand ratio phase placed plan other first second device)
+    (clear_alike plant parents demand ratio phase placed other plan second first device) mine.least
     (subst (λ r. IsLeastFrom (IsClearAt plant placed other device) r g.send_offset) (sym ready) its.least)
 
 -- Where nothing from the ready time on is clear in one plan, no plan that agrees above is fitted there.
@@ -77,7 +77,7 @@ none_fitted plant parents demand routed placed ratio phase plan other first seco
     let moved = ready_alike plant parents demand ratio phase plan other first second device e g is at agree ready when in
     let same = same_ready plant parents demand routed other device g ready its.ready moved its.is_ready in
     none g.send_offset (subst (λ r. r ≤ g.send_offset) (sym same) its.least.reached)
-    (clear_alike plant parents placed demand ratio phase other plan second first device g.send_offset its.least.holds)
+    (clear_alike plant parents demand ratio phase placed other plan second first device g.send_offset its.least.holds)
 
 offset_same : (plant : Plant) (parents : Parents) (placed : List FramePlan) (demand : Demand) (ratio phase : ℕ) (plan other : FramePlan) →
     ArePair plant parents placed demand ratio phase plan other → (device : ℕ) (e : Entry) → entry_of plan device ≡ Some e →

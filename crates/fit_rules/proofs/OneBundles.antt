@@ -63,127 +63,128 @@ one_greatest Holds n m a b = omega (arith, greatest_below Holds n m a b, greates
 one_period : (a b : Period) → a.red ≡ b.red → a.orange ≡ b.orange → a.green ≡ b.green → a ≡ b
 one_period a b red orange green = λ i. record { red = red i; orange = orange i; green = green i }
 
-same_tx : (plant : Plant) (plans : List FramePlan) (device port k : ℕ) (a b : Period) → IsTxPeriod plant plans device port k a → IsTxPeriod plant plans device port k b → a ≡ b
-same_tx plant plans device port k a b x y =
-    let orange = one_greatest (IsSentEnd plant plans device port k) a.orange b.orange x.orange y.orange in
-    one_period a b (x.red ∙ sym y.red) orange (x.green ∙ ap (λ n. n + plant.orange) orange ∙ sym y.green)
-
-same_rx : (plant : Plant) (plans : List FramePlan) (device port k : ℕ) (a b : Period) → IsRxPeriod plant plans device port k a → IsRxPeriod plant plans device port k b → a ≡ b
-same_rx plant plans device port k a b x y =
-    let orange = one_greatest (IsReceivedEnd plant plans device port k) a.orange b.orange x.orange y.orange in
-    one_period a b (x.red ∙ sym y.red) orange (x.green ∙ orange ∙ sym y.green)
-
--- the periods of a phase, whichever number they have
-same_assignment : (plant : Plant) (plans : List FramePlan) (device port : ℕ) (p q : PortPeriods) (k : ℕ) (pair other : PhasePair) →
-    (a : IsPhase plant plans device port p k pair) → (b : IsPhase plant plans device port q k other) → a.periods ≡ b.periods
-same_assignment plant plans device port p q k pair other a b =
-    let tx = same_tx plant plans device port k a.periods.tx b.periods.tx a.tx b.tx in
-    let rx = same_rx plant plans device port k a.periods.rx b.periods.rx a.rx b.rx in
-    λ i. record { tx = tx i; rx = rx i }
-
 record AreBoth (plant : Plant) (plans : List FramePlan) (device port : ℕ) (p q : PortPeriods) : Type 0 where
   mine : ArePortPeriods plant plans device port p
   its : ArePortPeriods plant plans device port q
-
-both_back : (plant : Plant) (plans : List FramePlan) (device port : ℕ) (p q : PortPeriods) → AreBoth plant plans device port p q → AreBoth plant plans device port q p
-both_back plant plans device port p q are = record { mine = are.its; its = are.mine }
 
 -- phases before have the same numbers in both
 abbrev AgreeBelow : PortPeriods → PortPeriods → ℕ → Type 0
 AgreeBelow p q k = (j : ℕ) (a b : PhasePair) → j < k → slice_get p.phases j ≡ Some a → slice_get q.phases j ≡ Some b → a.tx ≡ b.tx
 
--- no number is less in one: a phase before has it in the other, and so the same periods
-not_less : (plant : Plant) (plans : List FramePlan) (device port : ℕ) (p q : PortPeriods) → AreBoth plant plans device port p q → (k : ℕ) (a b : PhasePair) →
-    AgreeBelow p q k → slice_get p.phases k ≡ Some a → slice_get q.phases k ≡ Some b → a.tx < b.tx → ⊥
-not_less plant plans device port p q are k a b agree is at less =
-    let before = are.its.numbered.first k a.tx b at less in
-    let j = before.earlier in
-    let (c, there) = some_at p.phases j (omega (arith, before.before, slice_get_within p.phases k a is)) in
-    let same : c.tx ≡ a.tx = agree j c before.pair before.before there before.there ∙ before.has in
-    let pj = are.mine.each j c there in
-    let pk = are.mine.each k a is in
-    let qj = are.its.each j before.pair before.there in
-    let qk = are.its.each k b at in
-    let mine : pj.periods ≡ pk.periods = same_Some pj.periods pk.periods (sym pj.named ∙ ap (slice_get p.assignments) same ∙ pk.named) in
-    let its : qj.periods ≡ qk.periods =
-    sym (same_assignment plant plans device port p q j c before.pair pj qj) ∙ mine ∙ same_assignment plant plans device port p q k a b pk qk in
-    let numbers : before.pair.tx ≡ b.tx = are.its.numbered.differ before.pair.tx b.tx qk.periods (qj.named ∙ ap Some its) qk.named in
-    omega (arith, before.has)
-
 flipped_agree : (p q : PortPeriods) (k : ℕ) → AgreeBelow p q k → AgreeBelow q p k
 flipped_agree p q k agree j a b less is at = sym (agree j b a less at is)
-
-agree_below : (plant : Plant) (plans : List FramePlan) (device port : ℕ) (p q : PortPeriods) → AreBoth plant plans device port p q → (k : ℕ) → AgreeBelow p q k
-agree_below plant plans device port p q are zero j a b less is at = absurd (omega arith)
-agree_below plant plans device port p q are (suc k) j a b less is at =
-    let rest : AgreeBelow p q k = agree_below plant plans device port p q are k in
-    let below : AgreeBelow p q j = λ i c d early there here_is. rest i c d (omega arith) there here_is in
-    elim (cases_order a.tx b.tx) [
-      | inl same ↦ same
-      | inr (inl fewer) ↦ absurd (not_less plant plans device port p q are j a b below is at fewer)
-      | inr (inr more) ↦ absurd (not_less plant plans device port q p (both_back plant plans device port p q are) j b a (flipped_agree p q j below) at is more)
-    ]
-
-same_phases : (plant : Plant) (plans : List FramePlan) (device port : ℕ) (p q : PortPeriods) → AreBoth plant plans device port p q → p.phases ≡ q.phases
-same_phases plant plans device port p q are =
-    same_items p.phases q.phases (are.mine.count ∙ sym are.its.count)
-    (λ k a b is at.
-    let tx = agree_below plant plans device port p q are (suc k) k a b (omega arith) is at in
-    let rx = (are.mine.each k a is).one ∙ tx ∙ sym (are.its.each k b at).one in
-    λ i. record { tx = tx i; rx = rx i })
-
-no_more : (plant : Plant) (plans : List FramePlan) (device port : ℕ) (p q : PortPeriods) → AreBoth plant plans device port p q → (i : ℕ) → i < length p.assignments → i < length q.assignments
-no_more plant plans device port p q are i less =
-    let use_ = are.mine.numbered.used i less in
-    let at = ap (λ ps. slice_get ps use_.earlier) (sym (same_phases plant plans device port p q are)) ∙ use_.there in
-    let phase = are.its.each use_.earlier use_.pair at in
-    omega (arith, slice_get_within q.assignments use_.pair.tx phase.periods phase.named, use_.has)
 
 as_long : (n m : ℕ) → ((i : ℕ) → i < n → i < m) → n ≤ m
 as_long zero m each = omega arith
 as_long (suc n) m each = omega (arith, each n (omega arith))
 
-same_ports : (plant : Plant) (plans : List FramePlan) (device port : ℕ) (p q : PortPeriods) → AreBoth plant plans device port p q → p ≡ q
-same_ports plant plans device port p q are =
-    let phases = same_phases plant plans device port p q are in
-    let back = both_back plant plans device port p q are in
-    let long : length p.assignments ≡ length q.assignments =
-    omega (
-      arith,
-      as_long (length p.assignments) (length q.assignments) (no_more plant plans device port p q are),
-      as_long (length q.assignments) (length p.assignments) (no_more plant plans device port q p back),
-    ) in
-    let assignments = same_items p.assignments q.assignments long (λ i a b is at.
-    let use_ = are.mine.numbered.used i (slice_get_within p.assignments i a is) in
-    let mine = are.mine.each use_.earlier use_.pair use_.there in
-    let its = are.its.each use_.earlier use_.pair (ap (λ ps. slice_get ps use_.earlier) (sym phases) ∙ use_.there) in
-    same_Some a mine.periods (sym is ∙ ap (slice_get p.assignments) (sym use_.has) ∙ mine.named)
-    ∙ same_assignment plant plans device port p q use_.earlier use_.pair use_.pair mine its
-    ∙ same_Some its.periods b (sym its.named ∙ ap (slice_get q.assignments) use_.has ∙ at)) in
-    λ i. record { assignments = assignments i; phases = phases i }
+module _ (plant : Plant) (plans : List FramePlan) where
+  same_tx : (device port k : ℕ) (a b : Period) → IsTxPeriod plant plans device port k a → IsTxPeriod plant plans device port k b → a ≡ b
+  same_tx device port k a b x y =
+      let orange = one_greatest (IsSentEnd plant plans device port k) a.orange b.orange x.orange y.orange in
+      one_period a b (x.red ∙ sym y.red) orange (x.green ∙ ap (λ n. n + plant.orange) orange ∙ sym y.green)
 
-same_periods : (plant : Plant) (plans : List FramePlan) (device : ℕ) (d : Device) (a b : PeriodBlock) → ArePeriods plant plans device d a → ArePeriods plant plans device d b → a ≡ b
-same_periods plant plans device d a b x y =
-    let first = x.begin ∙ sym y.begin in
-    let last = x.end ∙ sym y.end in
-    let ports = same_items a.ports b.ports (x.count ∙ sym y.count)
-    (λ n p q is at. same_ports plant plans device (n + 1) p q (record { mine = x.ports n p is; its = y.ports n q at })) in
-    λ i. record { first = first i; last = last i; ports = ports i }
+  same_rx : (device port k : ℕ) (a b : Period) → IsRxPeriod plant plans device port k a → IsRxPeriod plant plans device port k b → a ≡ b
+  same_rx device port k a b x y =
+      let orange = one_greatest (IsReceivedEnd plant plans device port k) a.orange b.orange x.orange y.orange in
+      one_period a b (x.red ∙ sym y.red) orange (x.green ∙ orange ∙ sym y.green)
 
-same_bundle : (plant : Plant) (plans : List FramePlan) (device : ℕ) (d : Device) (a b : Bundle) → IsBundleOf plant plans device d a → IsBundleOf plant plans device d b → a ≡ b
-same_bundle plant plans device d a b x y =
-    let sync = x.sync ∙ sym y.sync in
-    let slot = x.slot ∙ sym y.slot in
-    let subslot = x.subslot ∙ sym y.subslot in
-    let global = x.global ∙ sym y.global in
-    let relative = x.mode ∙ sym y.mode in
-    let entries = same_entries plans device a.frames.entries b.frames.entries x.entries y.entries in
-    let frames : a.frames ≡ b.frames = λ i. record { relative = relative i; entries = entries i } in
-    let periods = same_periods plant plans device d a.periods b.periods x.periods y.periods in
-    λ i. record { sync = sync i; slot = slot i; subslot = subslot i; global = global i; frames = frames i; periods = periods i }
+  -- the periods of a phase, whichever number they have
+  same_assignment : (device port : ℕ) (p q : PortPeriods) (k : ℕ) (pair other : PhasePair) →
+      (a : IsPhase plant plans device port p k pair) → (b : IsPhase plant plans device port q k other) → a.periods ≡ b.periods
+  same_assignment device port p q k pair other a b =
+      let tx = same_tx device port k a.periods.tx b.periods.tx a.tx b.tx in
+      let rx = same_rx device port k a.periods.rx b.periods.rx a.rx b.rx in
+      λ i. record { tx = tx i; rx = rx i }
 
-pub same_bundles : (plant : Plant) (plans : List FramePlan) (xs ys : List Bundle) → AreBundlesOf plant plans xs → AreBundlesOf plant plans ys → xs ≡ ys
-same_bundles plant plans xs ys a b =
-    same_items xs ys (a.count ∙ sym b.count) (λ device x y is at.
-    let (d, there) = some_at plant.devices device (omega (arith, slice_get_within xs device x is, a.count)) in
-    same_bundle plant plans device d x y (a.each device d x there is) (b.each device d y there at))
+  both_back : (device port : ℕ) (p q : PortPeriods) → AreBoth plant plans device port p q → AreBoth plant plans device port q p
+  both_back device port p q are = record { mine = are.its; its = are.mine }
+
+  -- no number is less in one: a phase before has it in the other, and so the same periods
+  not_less : (device port : ℕ) (p q : PortPeriods) → AreBoth plant plans device port p q → (k : ℕ) (a b : PhasePair) →
+      AgreeBelow p q k → slice_get p.phases k ≡ Some a → slice_get q.phases k ≡ Some b → a.tx < b.tx → ⊥
+  not_less device port p q are k a b agree is at less =
+      let before = are.its.numbered.first k a.tx b at less in
+      let j = before.earlier in
+      let (c, there) = some_at p.phases j (omega (arith, before.before, slice_get_within p.phases k a is)) in
+      let same : c.tx ≡ a.tx = agree j c before.pair before.before there before.there ∙ before.has in
+      let pj = are.mine.each j c there in
+      let pk = are.mine.each k a is in
+      let qj = are.its.each j before.pair before.there in
+      let qk = are.its.each k b at in
+      let mine : pj.periods ≡ pk.periods = same_Some pj.periods pk.periods (sym pj.named ∙ ap (slice_get p.assignments) same ∙ pk.named) in
+      let its : qj.periods ≡ qk.periods =
+      sym (same_assignment device port p q j c before.pair pj qj) ∙ mine ∙ same_assignment device port p q k a b pk qk in
+      let numbers : before.pair.tx ≡ b.tx = are.its.numbered.differ before.pair.tx b.tx qk.periods (qj.named ∙ ap Some its) qk.named in
+      omega (arith, before.has)
+
+  agree_below : (device port : ℕ) (p q : PortPeriods) → AreBoth plant plans device port p q → (k : ℕ) → AgreeBelow p q k
+  agree_below device port p q are zero j a b less is at = absurd (omega arith)
+  agree_below device port p q are (suc k) j a b less is at =
+      let rest : AgreeBelow p q k = agree_below device port p q are k in
+      let below : AgreeBelow p q j = λ i c d early there here_is. rest i c d (omega arith) there here_is in
+      elim (cases_order a.tx b.tx) [
+        | inl same ↦ same
+        | inr (inl fewer) ↦ absurd (not_less device port p q are j a b below is at fewer)
+        | inr (inr more) ↦ absurd (not_less device port q p (both_back device port p q are) j b a (flipped_agree p q j below) at is more)
+      ]
+
+  same_phases : (device port : ℕ) (p q : PortPeriods) → AreBoth plant plans device port p q → p.phases ≡ q.phases
+  same_phases device port p q are =
+      same_items p.phases q.phases (are.mine.count ∙ sym are.its.count)
+      (λ k a b is at.
+      let tx = agree_below device port p q are (suc k) k a b (omega arith) is at in
+      let rx = (are.mine.each k a is).one ∙ tx ∙ sym (are.its.each k b at).one in
+      λ i. record { tx = tx i; rx = rx i })
+
+  no_more : (device port : ℕ) (p q : PortPeriods) → AreBoth plant plans device port p q → (i : ℕ) → i < length p.assignments → i < length q.assignments
+  no_more device port p q are i less =
+      let use_ = are.mine.numbered.used i less in
+      let at = ap (λ ps. slice_get ps use_.earlier) (sym (same_phases device port p q are)) ∙ use_.there in
+      let phase = are.its.each use_.earlier use_.pair at in
+      omega (arith, slice_get_within q.assignments use_.pair.tx phase.periods phase.named, use_.has)
+
+  same_ports : (device port : ℕ) (p q : PortPeriods) → AreBoth plant plans device port p q → p ≡ q
+  same_ports device port p q are =
+      let phases = same_phases device port p q are in
+      let back = both_back device port p q are in
+      let long : length p.assignments ≡ length q.assignments =
+      omega (
+        arith,
+        as_long (length p.assignments) (length q.assignments) (no_more device port p q are),
+        as_long (length q.assignments) (length p.assignments) (no_more device port q p back),
+      ) in
+      let assignments = same_items p.assignments q.assignments long (λ i a b is at.
+      let use_ = are.mine.numbered.used i (slice_get_within p.assignments i a is) in
+      let mine = are.mine.each use_.earlier use_.pair use_.there in
+      let its = are.its.each use_.earlier use_.pair (ap (λ ps. slice_get ps use_.earlier) (sym phases) ∙ use_.there) in
+      same_Some a mine.periods (sym is ∙ ap (slice_get p.assignments) (sym use_.has) ∙ mine.named)
+      ∙ same_assignment device port p q use_.earlier use_.pair use_.pair mine its
+      ∙ same_Some its.periods b (sym its.named ∙ ap (slice_get q.assignments) use_.has ∙ at)) in
+      λ i. record { assignments = assignments i; phases = phases i }
+
+  same_periods : (device : ℕ) (d : Device) (a b : PeriodBlock) → ArePeriods plant plans device d a → ArePeriods plant plans device d b → a ≡ b
+  same_periods device d a b x y =
+      let first = x.begin ∙ sym y.begin in
+      let last = x.end ∙ sym y.end in
+      let ports = same_items a.ports b.ports (x.count ∙ sym y.count)
+      (λ n p q is at. same_ports device (n + 1) p q (record { mine = x.ports n p is; its = y.ports n q at })) in
+      λ i. record { first = first i; last = last i; ports = ports i }
+
+  same_bundle : (device : ℕ) (d : Device) (a b : Bundle) → IsBundleOf plant plans device d a → IsBundleOf plant plans device d b → a ≡ b
+  same_bundle device d a b x y =
+      let sync = x.sync ∙ sym y.sync in
+      let slot = x.slot ∙ sym y.slot in
+      let subslot = x.subslot ∙ sym y.subslot in
+      let global = x.global ∙ sym y.global in
+      let relative = x.mode ∙ sym y.mode in
+      let entries = same_entries plans device a.frames.entries b.frames.entries x.entries y.entries in
+      let frames : a.frames ≡ b.frames = λ i. record { relative = relative i; entries = entries i } in
+      let periods = same_periods device d a.periods b.periods x.periods y.periods in
+      λ i. record { sync = sync i; slot = slot i; subslot = subslot i; global = global i; frames = frames i; periods = periods i }
+
+  pub same_bundles : (xs ys : List Bundle) → AreBundlesOf plant plans xs → AreBundlesOf plant plans ys → xs ≡ ys
+  same_bundles xs ys a b =
+      same_items xs ys (a.count ∙ sym b.count) (λ device x y is at.
+      let (d, there) = some_at plant.devices device (omega (arith, slice_get_within xs device x is, a.count)) in
+      same_bundle device d x y (a.each device d x there is) (b.each device d y there at))

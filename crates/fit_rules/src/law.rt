@@ -43,7 +43,7 @@ pub fn offsets_jump()
 /// in neither. Where they agree above an anchor, they agree at it if both are fitted there, and neither is fitted there
 /// if nothing from the ready time on is clear.
 pub fn shapes_are_one()
-    ensures clear { (plant : Plant) (parents : Parents) (placed : List FramePlan) (demand : Demand) (ratio phase : ℕ) (plan other : FramePlan) →
+    ensures clear { (plant : Plant) (parents : Parents) (demand : Demand) (ratio phase : ℕ) (placed : List FramePlan) (plan other : FramePlan) →
         HasShape plant parents demand ratio phase plan → HasShape plant parents demand ratio phase other → (device offset : ℕ) →
         IsClearAt plant placed plan device offset → IsClearAt plant placed other device offset }
     ensures fitted { (plant : Plant) (routes : RouteTables) (index : ℕ) (demand : Demand) → IsRoutesOf plant routes → IsDemandAt plant index demand →
