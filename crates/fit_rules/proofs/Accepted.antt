@@ -8,6 +8,7 @@ use Rattle.plan_rules.specs.Places.{IsAccepted}
 use Rattle.plan_rules.specs.Plan.{IsPlan}
 use Rattle.plan_rules.specs.Rules.{rule_table, AsksNothing}
 use Rattle.plan_rules.specs.declared.place.Place.{Place}
+use Rattle.fit_rules.specs.declared.frame_plan.FramePlan.{FramePlan}
 use Rattle.fit_rules.specs.Blocks.{AreFirstFit}
 use Rattle.fit_rules.proofs.FrameRules.{tree_holds, demand_holds, idle_holds, late_holds, apart_holds, end_holds}
 use Rattle.fit_rules.proofs.HeaderRules.{header_holds, frame_holds, range_holds, clock_holds}
@@ -23,18 +24,39 @@ whole_fit known plant routes bundles are fit = record { known = known; are = are
 pub plan_of_fit : Known → (plant : Plant) (routes : RouteTables) (bundles : List Bundle) → IsRoutesOf plant routes → AreFirstFit plant routes bundles → IsPlan plant bundles
 plan_of_fit known plant routes bundles are fit = plan_holds plant routes fit.plans bundles (whole_fit known plant routes bundles are fit)
 
+infixr 10 ◌▸◌
 -- each of a list of rules holds everywhere
-abbrev AreKept : List (Place → Type 0) → Type 0
-AreKept [] = ⊤
-AreKept (Rule ∷ rules) = ((at : Place) → Rule at) × AreKept rules
+data AreKept : List (Place → Type 0) → Type 1 where
+  none : AreKept []
+  ◌▸◌ : {Rule : Place → Type 0} {rules : List (Place → Type 0)} → ((at : Place) → Rule at) → AreKept rules → AreKept (Rule ∷ rules)
 
 kept_rule : (rules : List (Place → Type 0)) → AreKept rules → (number : ℕ) (at : Place) → slice_index_or rules number AsksNothing at
-kept_rule [] are number at = tt
-kept_rule (Rule ∷ rules) are zero at = are.0 at
-kept_rule (Rule ∷ rules) are (suc number) at = kept_rule rules are.1 number at
+kept_rule _ none number at = tt
+kept_rule _ (rule ▸ rest) zero at = rule at
+kept_rule _ (rule ▸ rest) (suc number) at = kept_rule _ rest number at
+
+module _ (plant : Plant) (routes : RouteTables) (plans : List FramePlan) (bundles : List Bundle) (whole : IsWhole plant routes plans bundles) where
+  table_kept : AreKept (AsksNothing ∷ rule_table plant bundles)
+  table_kept =
+      (λ at. tt)
+      ▸ header_holds plant routes plans bundles whole
+      ▸ tree_holds plant routes plans bundles whole
+      ▸ demand_holds plant routes plans bundles whole
+      ▸ idle_holds plant routes plans bundles whole
+      ▸ late_holds plant routes plans bundles whole
+      ▸ apart_holds plant routes plans bundles whole
+      ▸ sent_holds plant routes plans bundles whole
+      ▸ received_holds plant routes plans bundles whole
+      ▸ end_holds plant routes plans bundles whole
+      ▸ limit_holds plant routes plans bundles whole
+      ▸ frame_holds plant routes plans bundles whole
+      ▸ range_holds plant routes plans bundles whole
+      ▸ orange_holds plant routes plans bundles whole
+      ▸ order_holds plant routes plans bundles whole
+      ▸ clock_holds plant routes plans bundles whole
+      ▸ none
 
 pub accepted_fit : Known → (plant : Plant) (routes : RouteTables) (bundles : List Bundle) → IsRoutesOf plant routes → AreFirstFit plant routes bundles →
     IsAccepted plant bundles
 accepted_fit known plant routes bundles are fit =
-    let whole = whole_fit known plant routes bundles are fit in
-    kept_rule (AsksNothing ∷ rule_table plant bundles) (λ at. tt, (header_holds plant routes fit.plans bundles whole, (tree_holds plant routes fit.plans bundles whole, (demand_holds plant routes fit.plans bundles whole, (idle_holds plant routes fit.plans bundles whole, (late_holds plant routes fit.plans bundles whole, (apart_holds plant routes fit.plans bundles whole, (sent_holds plant routes fit.plans bundles whole, (received_holds plant routes fit.plans bundles whole, (end_holds plant routes fit.plans bundles whole, (limit_holds plant routes fit.plans bundles whole, (frame_holds plant routes fit.plans bundles whole, (range_holds plant routes fit.plans bundles whole, (orange_holds plant routes fit.plans bundles whole, (order_holds plant routes fit.plans bundles whole, (clock_holds plant routes fit.plans bundles whole, tt))))))))))))))))
+    kept_rule (AsksNothing ∷ rule_table plant bundles) (table_kept plant routes fit.plans bundles (whole_fit known plant routes bundles are fit))

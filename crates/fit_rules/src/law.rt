@@ -28,33 +28,35 @@ pub fn offsets_jump()
     ensures moves { (plant : Plant) (plan : FramePlan) (anchor x y device port : ℕ) (e : Entry) (w : SendWindow) →
         IsUsing plant (moved plan anchor x) device port e w → w.anchor ≡ anchor →
         (g : Entry) × (v : SendWindow) × IsAlike e g × IsUsing plant (moved plan anchor y) device port g v × IsShifted x y w v }
-    ensures blocked { (plant : Plant) (placed : List FramePlan) (plan : FramePlan) (anchor x y device port : ℕ) (e : Entry) (w : SendWindow) →
-        IsUsing plant (moved plan anchor x) device port e w → w.anchor ≡ anchor →
+    ensures blocked { (plant : Plant) (placed : List FramePlan) (plan : FramePlan) (anchor x y device port : ℕ) →
+        (e : Entry) (w : SendWindow) → IsUsing plant (moved plan anchor x) device port e w → w.anchor ≡ anchor →
         (other : FramePlan) (f : Entry) (v : SendWindow) → Contains placed other → IsUsing plant other device port f v →
         SharesCycle e.ratio e.phase f.ratio f.phase → AreTooClose plant e w f v → x ≤ y →
         w.lo + y < x + v.hi + wire_time f.data_length + slack_time plant.window v.anchor w.anchor →
         ¬ IsClearAt plant placed plan anchor y }
-    ensures late { (plant : Plant) (placed : List FramePlan) (plan : FramePlan) (anchor x y device port : ℕ) (e : Entry) (w : SendWindow) →
-        IsUsing plant (moved plan anchor x) device port e w → w.anchor ≡ anchor → plant.red_max < end_time plant device e w → x ≤ y →
-        ¬ IsClearAt plant placed plan anchor y }
+    ensures late { (plant : Plant) (placed : List FramePlan) (plan : FramePlan) (anchor x y device port : ℕ) →
+        (e : Entry) (w : SendWindow) → IsUsing plant (moved plan anchor x) device port e w → w.anchor ≡ anchor →
+        plant.red_max < end_time plant device e w → x ≤ y → ¬ IsClearAt plant placed plan anchor y }
 {}
 
 /// Two plans of a demand in one ratio and phase have the same entries but for offsets. So an offset is clear in both or
 /// in neither. Where they agree above an anchor, they agree at it if both are fitted there, and neither is fitted there
 /// if nothing from the ready time on is clear.
 pub fn shapes_are_one()
-    ensures clear { (plant : Plant) (parents : Parents) (demand : Demand) (ratio phase : ℕ) (placed : List FramePlan) (plan other : FramePlan) →
-        HasShape plant parents demand ratio phase plan → HasShape plant parents demand ratio phase other → (device offset : ℕ) →
-        IsClearAt plant placed plan device offset → IsClearAt plant placed other device offset }
-    ensures fitted { (plant : Plant) (routes : RouteTables) (index : ℕ) (demand : Demand) → IsRoutesOf plant routes → IsDemandAt plant index demand →
-        (placed : List FramePlan) (ratio phase : ℕ) (plan other : FramePlan) →
-        HasShape plant (parents_of routes index) demand ratio phase plan → HasShape plant (parents_of routes index) demand ratio phase other →
-        (device : ℕ) (e g : Entry) → entry_of plan device ≡ Some e → entry_of other device ≡ Some g → AgreeAbove plant plan other device e →
+    ensures clear { (plant : Plant) (parents : Parents) (demand : Demand) (ratio phase : ℕ) (placed : List FramePlan) →
+        (plan other : FramePlan) → HasShape plant parents demand ratio phase plan → HasShape plant parents demand ratio phase other →
+        (device offset : ℕ) → IsClearAt plant placed plan device offset → IsClearAt plant placed other device offset }
+    ensures fitted { (plant : Plant) (routes : RouteTables) (index : ℕ) (demand : Demand) → IsRoutesOf plant routes →
+        IsDemandAt plant index demand → (placed : List FramePlan) (ratio phase : ℕ) (plan other : FramePlan) →
+        HasShape plant (parents_of routes index) demand ratio phase plan →
+        HasShape plant (parents_of routes index) demand ratio phase other → (device : ℕ) (e g : Entry) →
+        entry_of plan device ≡ Some e → entry_of other device ≡ Some g → AgreeAbove plant plan other device e →
         IsFitted plant placed plan device e → IsFitted plant placed other device g → e.send_offset ≡ g.send_offset }
-    ensures none { (plant : Plant) (routes : RouteTables) (index : ℕ) (demand : Demand) → IsRoutesOf plant routes → IsDemandAt plant index demand →
-        (placed : List FramePlan) (ratio phase : ℕ) (plan other : FramePlan) →
-        HasShape plant (parents_of routes index) demand ratio phase plan → HasShape plant (parents_of routes index) demand ratio phase other →
-        (device : ℕ) (e g : Entry) → entry_of plan device ≡ Some e → entry_of other device ≡ Some g → AgreeAbove plant plan other device e →
+    ensures none { (plant : Plant) (routes : RouteTables) (index : ℕ) (demand : Demand) → IsRoutesOf plant routes →
+        IsDemandAt plant index demand → (placed : List FramePlan) (ratio phase : ℕ) (plan other : FramePlan) →
+        HasShape plant (parents_of routes index) demand ratio phase plan →
+        HasShape plant (parents_of routes index) demand ratio phase other → (device : ℕ) (e g : Entry) →
+        entry_of plan device ≡ Some e → entry_of other device ≡ Some g → AgreeAbove plant plan other device e →
         (ready : ℕ) → IsReady plant plan device e ready → ((x : ℕ) → ready ≤ x → ¬ IsClearAt plant placed plan device x) →
         ¬ IsFitted plant placed other device g }
 {
@@ -66,13 +68,17 @@ pub fn shapes_are_one()
 /// A demand has at most one ratio, a frame one last end; so there is at most one plan in a phase, and at most one first
 /// fit beside the frames placed.
 pub fn placements_are_one()
-    ensures ratio { (plant : Plant) (demand : Demand) (ratio other : ℕ) → IsRatioFor plant demand ratio → IsRatioFor plant demand other → ratio ≡ other }
-    ensures end { (plant : Plant) (plan : FramePlan) (end other : ℕ) → IsLastEnd plant plan end → IsLastEnd plant plan other → end ≡ other }
-    ensures in_phase { (plant : Plant) (routes : RouteTables) (index : ℕ) (demand : Demand) → IsRoutesOf plant routes → IsDemandAt plant index demand →
-        (placed : List FramePlan) (phase : ℕ) (plan other : FramePlan) → IsInPhase plant (parents_of routes index) placed demand phase plan →
+    ensures ratio { (plant : Plant) (demand : Demand) (ratio other : ℕ) → IsRatioFor plant demand ratio →
+        IsRatioFor plant demand other → ratio ≡ other }
+    ensures end { (plant : Plant) (plan : FramePlan) (end other : ℕ) → IsLastEnd plant plan end → IsLastEnd plant plan other →
+        end ≡ other }
+    ensures in_phase { (plant : Plant) (routes : RouteTables) (index : ℕ) (demand : Demand) → IsRoutesOf plant routes →
+        IsDemandAt plant index demand → (placed : List FramePlan) (phase : ℕ) (plan other : FramePlan) →
+        IsInPhase plant (parents_of routes index) placed demand phase plan →
         IsInPhase plant (parents_of routes index) placed demand phase other → plan ≡ other }
-    ensures first { (plant : Plant) (routes : RouteTables) (index : ℕ) (demand : Demand) → IsRoutesOf plant routes → IsDemandAt plant index demand →
-        (placed : List FramePlan) (plan other : FramePlan) → IsFirstFit plant (parents_of routes index) placed demand plan →
+    ensures first { (plant : Plant) (routes : RouteTables) (index : ℕ) (demand : Demand) → IsRoutesOf plant routes →
+        IsDemandAt plant index demand → (placed : List FramePlan) (plan other : FramePlan) →
+        IsFirstFit plant (parents_of routes index) placed demand plan →
         IsFirstFit plant (parents_of routes index) placed demand other → plan ≡ other }
 {
     ways_are_one();
@@ -82,10 +88,10 @@ pub fn placements_are_one()
 
 /// What first fit gives is a plan, and the rules of a plan hold for it.
 pub fn first_fit_is_accepted()
-    ensures plan { (plant : Plant) (routes : RouteTables) (bundles : List Bundle) → IsRoutesOf plant routes → AreFirstFit plant routes bundles →
-        IsPlan plant bundles }
-    ensures accepted { (plant : Plant) (routes : RouteTables) (bundles : List Bundle) → IsRoutesOf plant routes → AreFirstFit plant routes bundles →
-        IsAccepted plant bundles }
+    ensures plan { (plant : Plant) (routes : RouteTables) (bundles : List Bundle) → IsRoutesOf plant routes →
+        AreFirstFit plant routes bundles → IsPlan plant bundles }
+    ensures accepted { (plant : Plant) (routes : RouteTables) (bundles : List Bundle) → IsRoutesOf plant routes →
+        AreFirstFit plant routes bundles → IsAccepted plant bundles }
 {
     ways_are_one();
     parents_of_trees();
@@ -98,8 +104,8 @@ pub fn first_fit_is_one()
         IsFit plant routes plans → IsFit plant routes others → plans ≡ others }
     ensures bundles { (plant : Plant) (routes : RouteTables) (bundles others : List Bundle) → IsRoutesOf plant routes →
         AreFirstFit plant routes bundles → AreFirstFit plant routes others → bundles ≡ others }
-    ensures excluded { (plant : Plant) (routes : RouteTables) (plans : List FramePlan) (frame : FrameId) → IsRoutesOf plant routes →
-        IsFit plant routes plans → IsOverrun plant routes frame → ⊥ }
+    ensures excluded { (plant : Plant) (routes : RouteTables) (plans : List FramePlan) (frame : FrameId) →
+        IsRoutesOf plant routes → IsFit plant routes plans → IsOverrun plant routes frame → ⊥ }
     ensures overruns { (plant : Plant) (routes : RouteTables) (frame other : FrameId) → IsRoutesOf plant routes →
         IsOverrun plant routes frame → IsOverrun plant routes other → frame ≡ other }
 {
@@ -110,10 +116,11 @@ pub fn first_fit_is_one()
 
 /// There are plans to choose from: each demand has a ratio, and a shape in any ratio and phase.
 pub fn shapes_exist()
-    ensures ratios { (plant : Plant) (routes : RouteTables) (index : ℕ) (demand : Demand) → IsRoutesOf plant routes → IsDemandAt plant index demand →
-        (ratio : ℕ) × IsRatioFor plant demand ratio }
-    ensures shapes { (plant : Plant) (routes : RouteTables) (index : ℕ) (demand : Demand) → IsRoutesOf plant routes → IsDemandAt plant index demand →
-        (ratio phase : ℕ) → (plan : FramePlan) × HasShape plant (parents_of routes index) demand ratio phase plan }
+    ensures ratios { (plant : Plant) (routes : RouteTables) (index : ℕ) (demand : Demand) → IsRoutesOf plant routes →
+        IsDemandAt plant index demand → (ratio : ℕ) × IsRatioFor plant demand ratio }
+    ensures shapes { (plant : Plant) (routes : RouteTables) (index : ℕ) (demand : Demand) → IsRoutesOf plant routes →
+        IsDemandAt plant index demand → (ratio phase : ℕ) →
+        (plan : FramePlan) × HasShape plant (parents_of routes index) demand ratio phase plan }
 {
     ways_are_one();
     parents_of_trees();
