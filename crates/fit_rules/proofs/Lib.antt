@@ -20,4 +20,5 @@ pub mod Shapes
 pub mod Sliding
 pub mod Sorted
 pub mod Valid
+mod Line
 mod LineExample

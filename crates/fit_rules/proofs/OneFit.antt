@@ -12,7 +12,7 @@ use Rattle.irt_route.specs.Routes.{RouteTables, IsRoutesOf}
 use Rattle.fit_rules.specs.declared.frame_plan.FramePlan.{FramePlan}
 use Rattle.fit_rules.specs.Blocks.{AreBundlesOf, AreFirstFit}
 use Rattle.fit_rules.specs.Fit.{IsFirstFit, HasNoFit}
-use Rattle.fit_rules.specs.Order.{IsEarlier, IsDemandAt, IsOrder, parents_of, IsPlacedAt, ArePlaced, IsFit, IsOverrun}
+use Rattle.fit_rules.specs.Order.{AreInOrder, IsEarlier, IsDemandAt, IsOrder, parents_of, IsPlacedAt, ArePlaced, IsFit, IsOverrun}
 use Rattle.fit_rules.proofs.Counting.{no_longer, without, length-without, kept_without}
 use Rattle.fit_rules.proofs.Known.{Known}
 use Rattle.fit_rules.proofs.Lists.{place_of, some_at}
@@ -77,10 +77,7 @@ order_within plant order is n index at = elim (cases_lt index (length plant.dema
       absurd (omega (arith, few, length-without order n index at, length-counted 0 all, is.count))
 ]
 
-abbrev IsBefore : Plant → ℕ → ℕ → Type 0
-IsBefore plant i j = (d e : Demand) → IsDemandAt plant i d → IsDemandAt plant j e → IsEarlier plant d e
-
-before_strict : (plant : Plant) → IsStrict (λ i. i < length plant.demands) (IsBefore plant)
+before_strict : (plant : Plant) → IsStrict (λ i. i < length plant.demands) (AreInOrder plant)
 before_strict plant = record {
   never = λ i within before. let (d, at) = some_at plant.demands i within in not_earlier plant d (before d d at at);
   one_way = λ i j within also before after.
@@ -91,7 +88,7 @@ before_strict plant = record {
 
 pub one_order : (plant : Plant) (order other : List ℕ) → IsOrder plant order → IsOrder plant other → order ≡ other
 one_order plant order other a b =
-    one_sorted (λ i. i < length plant.demands) (IsBefore plant) (before_strict plant) order other a.sorted b.sorted
+    one_sorted (λ i. i < length plant.demands) (AreInOrder plant) (before_strict plant) order other a.sorted b.sorted
     (λ n i is. order_within plant order a n i is) (λ n i is. place_of other i (b.all i (order_within plant order a n i is)))
     (λ n i is. place_of order i (a.all i (order_within plant other b n i is)))
 

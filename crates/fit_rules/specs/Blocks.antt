@@ -50,7 +50,8 @@ global_of d = record { uuid = identifier; bridge = d.bmax; ports = d.ports }
 
 -- a device's entries of the placed frames, and no others
 pub record AreEntries (plans : List FramePlan) (device : ℕ) (entries : List Entry) : Type 0 where
-  pub only : (e : Entry) → Contains entries e → (plan : FramePlan) × Contains plans plan × (entry_of plan device ≡ Some e)
+  pub only : (e : Entry) → Contains entries e →
+      (plan : FramePlan) × Contains plans plan × (entry_of plan device ≡ Some e)
   pub all : (plan : FramePlan) (e : Entry) → Contains plans plan → entry_of plan device ≡ Some e → Contains entries e
   pub ascending : IsStrictlyIncreasing (frames_of entries)
 
@@ -94,7 +95,8 @@ pub record IsRxPeriod (plant : Plant) (plans : List FramePlan) (device port k : 
   pub green : rx.green ≡ rx.orange
 
 -- Both numbers of a phase are one, and name the phase's periods.
-pub record IsPhase (plant : Plant) (plans : List FramePlan) (device port : ℕ) (p : PortPeriods) (k : ℕ) (pair : PhasePair) : Type 0 where
+pub record IsPhase (plant : Plant) (plans : List FramePlan) (device port : ℕ) (p : PortPeriods) (k : ℕ)
+    (pair : PhasePair) : Type 0 where
   pub one : pair.rx ≡ pair.tx
   pub periods : Assignment
   pub named : slice_get p.assignments pair.tx ≡ Some periods
@@ -112,7 +114,8 @@ pub record IsBeforePhase (p : PortPeriods) (k number : ℕ) : Type 0 where
 -- The assignments differ, and stand in the order in which the phases first use them: so a phase's number is one of a
 -- phase before, or the next one.
 pub record AreNumbered (p : PortPeriods) : Type 0 where
-  pub differ : (i j : ℕ) (a : Assignment) → slice_get p.assignments i ≡ Some a → slice_get p.assignments j ≡ Some a → i ≡ j
+  pub differ : (i j : ℕ) (a : Assignment) → slice_get p.assignments i ≡ Some a →
+      slice_get p.assignments j ≡ Some a → i ≡ j
   pub used : (i : ℕ) → i < length p.assignments → IsBeforePhase p PHASES i
   pub first : (k i : ℕ) (pair : PhasePair) → slice_get p.phases k ≡ Some pair → i < pair.tx → IsBeforePhase p k i
 
@@ -123,7 +126,8 @@ pub record ArePortPeriods (plant : Plant) (plans : List FramePlan) (device port 
   pub numbered : AreNumbered p
 
 -- the periods of a device's ports, which count from 1, and the range of red FrameIDs
-pub record ArePeriods (plant : Plant) (plans : List FramePlan) (device : ℕ) (d : Device) (b : PeriodBlock) : Type 0 where
+pub record ArePeriods (plant : Plant) (plans : List FramePlan) (device : ℕ) (d : Device)
+    (b : PeriodBlock) : Type 0 where
   pub begin : b.first ≡ MIN_FRAME
   pub end : b.last ≡ MAX_FRAME
   pub count : length b.ports ≡ length d.ports
@@ -142,8 +146,8 @@ pub record IsBundleOf (plant : Plant) (plans : List FramePlan) (device : ℕ) (d
 -- The bundles hold the placed frames.
 pub record AreBundlesOf (plant : Plant) (plans : List FramePlan) (bundles : List Bundle) : Type 0 where
   pub count : length bundles ≡ length plant.devices
-  pub each : (device : ℕ) (d : Device) (b : Bundle) → slice_get plant.devices device ≡ Some d → slice_get bundles device ≡ Some b →
-      IsBundleOf plant plans device d b
+  pub each : (device : ℕ) (d : Device) (b : Bundle) → slice_get plant.devices device ≡ Some d →
+      slice_get bundles device ≡ Some b → IsBundleOf plant plans device d b
 
 -- The bundles that first fit gives of a plant and its routes.
 pub record AreFirstFit (plant : Plant) (routes : RouteTables) (bundles : List Bundle) : Type 0 where

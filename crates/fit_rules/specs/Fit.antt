@@ -25,7 +25,8 @@ IsUsing plant plan device port e w = IsSending (alone plant plan) device port pl
 
 -- Two sendings of one direction don't meet: where they share a cycle, one is before the other.
 abbrev pub AreClear : Plant → Entry → SendWindow → Entry → SendWindow → Type 0
-AreClear plant e w f v = SharesCycle e.ratio e.phase f.ratio f.phase → IsBefore plant.window e w v ⊎ IsBefore plant.window f v w
+AreClear plant e w f v = SharesCycle e.ratio e.phase f.ratio f.phase →
+    IsBefore plant.window e w v ⊎ IsBefore plant.window f v w
 
 -- The end of a sending in the device's own cycle, with the slack between its clock and the anchor's. An anchor that
 -- starts 40 bytes at 5800 ends at 12520.
@@ -33,9 +34,11 @@ abbrev pub end_time : Plant → ℕ → Entry → SendWindow → ℕ
 end_time plant device e w = w.hi + wire_time e.data_length + slack_time plant.window device w.anchor
 
 -- A sending ends by the red limit, and meets no placed frame.
-pub record HasRoom (plant : Plant) (placed : List FramePlan) (device port : ℕ) (e : Entry) (w : SendWindow) : Type 0 where
+pub record HasRoom (plant : Plant) (placed : List FramePlan) (device port : ℕ) (e : Entry)
+    (w : SendWindow) : Type 0 where
   pub red : end_time plant device e w ≤ plant.red_max
-  pub apart : (other : FramePlan) (f : Entry) (v : SendWindow) → Contains placed other → IsUsing plant other device port f v → AreClear plant e w f v
+  pub apart : (other : FramePlan) (f : Entry) (v : SendWindow) → Contains placed other →
+      IsUsing plant other device port f v → AreClear plant e w f v
 
 -- All sendings whose windows hang on an anchor have room.
 abbrev pub IsClear : Plant → List FramePlan → FramePlan → ℕ → Type 0
@@ -66,7 +69,8 @@ pub record IsFitted (plant : Plant) (placed : List FramePlan) (plan : FramePlan)
   pub least : IsLeastFrom (IsClearAt plant placed plan device) ready e.send_offset
 
 -- A demand's frame is placed in a phase. There is at most one such plan; where there is none, the phase fails.
-pub record IsInPhase (plant : Plant) (parents : Parents) (placed : List FramePlan) (demand : Demand) (phase : ℕ) (plan : FramePlan) : Type 0 where
+pub record IsInPhase (plant : Plant) (parents : Parents) (placed : List FramePlan) (demand : Demand) (phase : ℕ)
+    (plan : FramePlan) : Type 0 where
   pub ratio : ℕ
   pub rate : IsRatioFor plant demand ratio
   pub among : IsWithin 1 ratio phase
@@ -76,15 +80,18 @@ pub record IsInPhase (plant : Plant) (parents : Parents) (placed : List FramePla
 
 -- some sending ends then, and none later
 pub record IsLastEnd (plant : Plant) (plan : FramePlan) (end : ℕ) : Type 0 where
-  pub bound : (device port : ℕ) (e : Entry) (w : SendWindow) → IsUsing plant plan device port e w → end_time plant device e w ≤ end
-  pub some : (device : ℕ) × (port : ℕ) × (e : Entry) × (w : SendWindow) × IsUsing plant plan device port e w × (end ≡ end_time plant device e w)
+  pub bound : (device port : ℕ) (e : Entry) (w : SendWindow) → IsUsing plant plan device port e w →
+      end_time plant device e w ≤ end
+  pub some : (device : ℕ) × (port : ℕ) × (e : Entry) × (w : SendWindow) × IsUsing plant plan device port e w ×
+      (end ≡ end_time plant device e w)
 
 -- by last end, then by phase
 abbrev pub IsNotWorse : ℕ → ℕ → ℕ → ℕ → Type 0
 IsNotWorse end phase other_end other_phase = (end < other_end) ⊎ ((end ≡ other_end) × (phase ≤ other_phase))
 
 -- First fit places a demand's frame so: of the phases that don't fail, in the one with the least last end.
-pub record IsFirstFit (plant : Plant) (parents : Parents) (placed : List FramePlan) (demand : Demand) (plan : FramePlan) : Type 0 where
+pub record IsFirstFit (plant : Plant) (parents : Parents) (placed : List FramePlan) (demand : Demand)
+    (plan : FramePlan) : Type 0 where
   pub phase : ℕ
   pub end : ℕ
   pub is : IsInPhase plant parents placed demand phase plan
@@ -94,4 +101,5 @@ pub record IsFirstFit (plant : Plant) (parents : Parents) (placed : List FramePl
 
 -- All phases fail.
 abbrev pub HasNoFit : Plant → Parents → List FramePlan → Demand → Type 0
-HasNoFit plant parents placed demand = (phase : ℕ) (plan : FramePlan) → ¬ IsInPhase plant parents placed demand phase plan
+HasNoFit plant parents placed demand = (phase : ℕ) (plan : FramePlan) →
+    ¬ IsInPhase plant parents placed demand phase plan

@@ -34,5 +34,5 @@ offset_at plan device = option_map (λ (e : Entry). e.send_offset) (entry_of pla
 
 -- The offsets of two plans agree at the anchor on which the window of a device's parent hangs.
 abbrev pub AgreeAbove : Plant → FramePlan → FramePlan → ℕ → Entry → Type 0
-AgreeAbove plant plan other device e = (hop : ℕ) (w : SendWindow) → IsForwarded (alone plant plan) device plan.frame.0 e hop w →
-    offset_at plan w.anchor ≡ offset_at other w.anchor
+AgreeAbove plant plan other device e = (hop : ℕ) (w : SendWindow) →
+    IsForwarded (alone plant plan) device plan.frame.0 e hop w → offset_at plan w.anchor ≡ offset_at other w.anchor

@@ -13,7 +13,8 @@ use Rattle.fit_rules.specs.Fit.{IsFirstFit, HasNoFit}
 
 -- the links of the walk to a demand's farthest consumer
 pub record HasFarthest (plant : Plant) (demand : Demand) (hops : ℕ) : Type 0 where
-  pub bound : (c : DevId) (n : ℕ) → Contains demand.consumers c → HasHops (peer_of plant) demand.provider.0 c.0 n → n ≤ hops
+  pub bound : (c : DevId) (n : ℕ) → Contains demand.consumers c →
+      HasHops (peer_of plant) demand.provider.0 c.0 n → n ≤ hops
   pub some : (c : DevId) × Contains demand.consumers c × HasHops (peer_of plant) demand.provider.0 c.0 hops
 
 -- far frames first, then long ones, then those of lesser FrameIDs
@@ -28,17 +29,22 @@ pub record IsEarlier (plant : Plant) (first second : Demand) : Type 0 where
 abbrev pub IsDemandAt : Plant → ℕ → Demand → Type 0
 IsDemandAt plant index demand = slice_get plant.demands index ≡ Some demand
 
+-- one index is placed before the other
+abbrev pub AreInOrder : Plant → ℕ → ℕ → Type 0
+AreInOrder plant i j = (d e : Demand) → IsDemandAt plant i d → IsDemandAt plant j e → IsEarlier plant d e
+
 -- The indexes of all demands, in the order in which they are placed.
 pub record IsOrder (plant : Plant) (order : List ℕ) : Type 0 where
   pub count : length order ≡ length plant.demands
   pub all : (index : ℕ) → index < length plant.demands → Contains order index
-  pub sorted : AllPairs (λ i j. (d e : Demand) → IsDemandAt plant i d → IsDemandAt plant j e → IsEarlier plant d e) order
+  pub sorted : AllPairs (AreInOrder plant) order
 
 abbrev pub parents_of : RouteTables → ℕ → Parents
 parents_of routes index = slice_index_or routes.parents index []
 
 -- what first fit places at a place of the order, beside the frames before
-pub record IsPlacedAt (plant : Plant) (routes : RouteTables) (order : List ℕ) (placed : List FramePlan) (n : ℕ) (plan : FramePlan) : Type 0 where
+pub record IsPlacedAt (plant : Plant) (routes : RouteTables) (order : List ℕ) (placed : List FramePlan) (n : ℕ)
+    (plan : FramePlan) : Type 0 where
   pub index : ℕ
   pub demand : Demand
   pub next : slice_get order n ≡ Some index

@@ -32,8 +32,10 @@ with_offset offset e = record e { send_offset = offset }
 
 -- the same frame with another offset at a device
 abbrev pub moved : FramePlan → ℕ → ℕ → FramePlan
-moved plan device offset =
-    record { frame = plan.frame; entries = slice_set plan.entries device (option_map (with_offset offset) (entry_of plan device)) }
+moved plan device offset = record {
+  frame = plan.frame;
+  entries = slice_set plan.entries device (option_map (with_offset offset) (entry_of plan device));
+}
 
 -- The greatest ratio that keeps the update time. With cycles of 1000000 ns, 4000000 ns give ratio 4.
 pub record IsRatioFor (plant : Plant) (demand : Demand) (ratio : ℕ) : Type 0 where
@@ -43,11 +45,13 @@ pub record IsRatioFor (plant : Plant) (demand : Demand) (ratio : ℕ) : Type 0 w
 
 -- the device is on the demand's tree
 abbrev pub IsOn : Demand → Parents → ℕ → Type 0
-IsOn demand parents device = (device ≡ demand.provider.0) ⊎ ((from : DevId × PortNo) × (parent_at parents device ≡ Some from))
+IsOn demand parents device =
+    (device ≡ demand.provider.0) ⊎ ((from : DevId × PortNo) × (parent_at parents device ≡ Some from))
 
 -- the device sends the frame by this port to another one
 abbrev pub IsSentBy : Parents → ℕ → ℕ → Type 0
-IsSentBy parents device port = (child : ℕ) × (parent_at parents child ≡ Some (record { 0 = device }, record { 0 = port }))
+IsSentBy parents device port =
+    (child : ℕ) × (parent_at parents child ≡ Some (record { 0 = device }, record { 0 = port }))
 
 -- the entry receives the frame by the port to which the parent's port leads
 pub record IsReceivedFrom (plant : Plant) (device : ℕ) (e : Entry) (from : DevId × PortNo) : Type 0 where
@@ -55,7 +59,8 @@ pub record IsReceivedFrom (plant : Plant) (device : ℕ) (e : Entry) (from : Dev
   pub leads : peer_of plant from.0.0 from.1.0 ≡ Some (record { 0 = device }, record { 0 = e.rx_port })
 
 -- A demand's entry at a device of its tree. Its offset may be any.
-pub record IsEntryOf (plant : Plant) (parents : Parents) (demand : Demand) (ratio phase device : ℕ) (e : Entry) : Type 0 where
+pub record IsEntryOf (plant : Plant) (parents : Parents) (demand : Demand) (ratio phase device : ℕ)
+    (e : Entry) : Type 0 where
   pub on : IsOn demand parents device
   pub frame : e.frame ≡ demand.frame
   pub length : e.data_length ≡ demand.length
@@ -68,9 +73,12 @@ pub record IsEntryOf (plant : Plant) (parents : Parents) (demand : Demand) (rati
   pub small : e.tx < 2 ^ 8
 
 -- The frame stands at the devices of its tree and at no others, in a ratio and phase. Offsets stand at anchors alone.
-pub record HasShape (plant : Plant) (parents : Parents) (demand : Demand) (ratio phase : ℕ) (plan : FramePlan) : Type 0 where
+pub record HasShape (plant : Plant) (parents : Parents) (demand : Demand) (ratio phase : ℕ)
+    (plan : FramePlan) : Type 0 where
   pub frame : plan.frame ≡ demand.frame
   pub count : length plan.entries ≡ length plant.devices
-  pub each : (device : ℕ) (e : Entry) → entry_of plan device ≡ Some e → IsEntryOf plant parents demand ratio phase device e
+  pub each : (device : ℕ) (e : Entry) → entry_of plan device ≡ Some e →
+      IsEntryOf plant parents demand ratio phase device e
   pub full : (device : ℕ) → IsOn demand parents device → (e : Entry) × (entry_of plan device ≡ Some e)
-  pub idle : (device : ℕ) (e : Entry) → entry_of plan device ≡ Some e → ¬ IsAnchor (alone plant plan) device e → e.send_offset ≡ 0
+  pub idle : (device : ℕ) (e : Entry) → entry_of plan device ≡ Some e →
+      ¬ IsAnchor (alone plant plan) device e → e.send_offset ≡ 0
