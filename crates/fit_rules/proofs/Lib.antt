@@ -22,3 +22,4 @@ pub mod Sorted
 pub mod Valid
 mod Line
 mod LineExample
+mod RelativeExample

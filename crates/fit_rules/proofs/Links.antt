@@ -32,16 +32,16 @@ pub mapped : {X Y : Type 0} (f : X → Y) (o : Option X) (y : Y) → option_map 
 mapped f None y is = no_entry y is
 mapped f (Some x) y is = (x, refl, same_Some (f x) y is)
 
-begins : (d p : ℕ) (l : Link) → begins_at d p l ≡ true → (l.a.0 ≡ d) × (l.a_port.0 ≡ p)
+pub begins : (d p : ℕ) (l : Link) → begins_at d p l ≡ true → (l.a.0 ≡ d) × (l.a_port.0 ≡ p)
 begins d p l h = let (one, two) = and_parts _ (l.a_port.0 == p) h in (eqb-true _ _ one, eqb-true _ _ two)
 
-ends : (d p : ℕ) (l : Link) → ends_at d p l ≡ true → (l.b.0 ≡ d) × (l.b_port.0 ≡ p)
+pub ends : (d p : ℕ) (l : Link) → ends_at d p l ≡ true → (l.b.0 ≡ d) × (l.b_port.0 ≡ p)
 ends d p l h = let (one, two) = and_parts _ (l.b_port.0 == p) h in (eqb-true _ _ one, eqb-true _ _ two)
 
-far_of_begin : (d p : ℕ) (l : Link) → begins_at d p l ≡ true → far_end d p l ≡ (l.b, l.b_port)
+pub far_of_begin : (d p : ℕ) (l : Link) → begins_at d p l ≡ true → far_end d p l ≡ (l.b, l.b_port)
 far_of_begin d p l h = cond-true (begins_at d p l) (l.b, l.b_port) (l.a, l.a_port) h
 
-far_of_end : (d p : ℕ) (l : Link) → begins_at d p l ≡ false → far_end d p l ≡ (l.a, l.a_port)
+pub far_of_end : (d p : ℕ) (l : Link) → begins_at d p l ≡ false → far_end d p l ≡ (l.a, l.a_port)
 far_of_end d p l h = cond-false (begins_at d p l) (l.b, l.b_port) (l.a, l.a_port) h
 
 -- a port with a link is a port of its device
