@@ -9,6 +9,7 @@ ghost use Rattle.irt_base.specs.declared.plants.Demand.{Demand};
 ghost use Rattle.irt_base.specs.declared.plants.Plant.{Plant};
 ghost use Rattle.irt_route.specs.Routes.{RouteTables, IsRoutesOf};
 ghost use Rattle.irt_route.specs.Trees.{Parents};
+ghost use Rattle.plan_rules.specs.Expected.{IsSafe};
 ghost use Rattle.plan_rules.specs.Places.{IsAccepted};
 ghost use Rattle.plan_rules.specs.Plan.{IsPlan};
 ghost use Rattle.plan_rules.specs.SendWindow.{SendWindow, slack_time};
@@ -20,6 +21,7 @@ ghost use Rattle.fit_rules.specs.Moves.{IsAlike, IsShifted, AreTooClose, AgreeAb
 ghost use Rattle.fit_rules.specs.Order.{IsDemandAt, parents_of, IsFit, IsOverrun};
 
 use irt_route::laws::{chains_of_trees, parents_of_trees};
+use plan_rules::law::accepted_plans_are_safe;
 use plan_rules::ways::ways_are_one;
 
 /// The windows that hang on an anchor move with its offset. What a placed frame blocks at one offset it blocks at
@@ -86,16 +88,20 @@ pub fn placements_are_one()
     chains_of_trees();
 }
 
-/// What first fit gives is a plan, and the rules of a plan hold for it.
+/// What first fit gives is a plan, and the rules of a plan hold for it. So a planned plant is safe over every list of
+/// world rows.
 pub fn first_fit_is_accepted()
     ensures plan { (plant : Plant) (routes : RouteTables) (bundles : List Bundle) → IsRoutesOf plant routes →
         AreFirstFit plant routes bundles → IsPlan plant bundles }
     ensures accepted { (plant : Plant) (routes : RouteTables) (bundles : List Bundle) → IsRoutesOf plant routes →
         AreFirstFit plant routes bundles → IsAccepted plant bundles }
+    ensures safe { (plant : Plant) (routes : RouteTables) (bundles : List Bundle) → IsRoutesOf plant routes →
+        AreFirstFit plant routes bundles → IsSafe plant bundles }
 {
     ways_are_one();
     parents_of_trees();
     chains_of_trees();
+    accepted_plans_are_safe();
 }
 
 /// First fit has one answer: the same plans and the same bundles, or an overrun at the same frame.
