@@ -1,6 +1,5 @@
 -- First fit's bundles are an accepted plan.
 use Rattle.std.proofs.Common.{ℕ, zero, suc, List, [], ◌∷◌, slice_index_or}
-use Rattle.std.specs.Prelude.{⊤}
 use Rattle.irt_base.specs.declared.blocks.Bundle.{Bundle}
 use Rattle.irt_base.specs.declared.plants.Plant.{Plant}
 use Rattle.irt_route.specs.Routes.{RouteTables, IsRoutesOf}

@@ -1,11 +1,9 @@
 -- A line of three devices: the first provides two frames of 40 bytes to the last, over the one in the middle. Each hop
 -- takes 800 ns, each bridge 1000 to 3000. The one in the middle forwards in absolute or in relative time.
-use Rattle.std.proofs.Common.{◌≡◌, ℕ, zero, suc, ◌+◌, ◌<◌, ◌≤◌, ◌^◌, ◌↔◌, ◌⊎◌, List, [], ◌∷◌, Option, Some, None, refl, inl, inr, arith, replicate, slice_get, sym, ◌∙◌, ap, subst}
-use Rattle.std.specs.Prelude.{IsBitSet, Contains}
+use Rattle.std.proofs.Common.{◌≡◌, ℕ, zero, suc, ◌<◌, ◌≤◌, ◌^◌, ◌↔◌, ◌⊎◌, List, [], ◌∷◌, Some, None, refl, inl, inr, arith, replicate, slice_get, sym, ◌∙◌, ap, subst}
+use Rattle.std.specs.Prelude.{IsBitSet}
 use Rattle.std.proofs.lemmas.Nat.Bits.{bit_at_above}
 use Rattle.std.proofs.lemmas.Option.{same_Some}
-use Rattle.irt_base.specs.Cycle.{SharesCycle}
-use Rattle.irt_base.specs.Valid.{IsRatio}
 use Rattle.irt_base.specs.declared.blocks.Entry.{Entry}
 use Rattle.irt_base.specs.declared.blocks.PortDelay.{PortDelay}
 use Rattle.irt_base.specs.declared.numbers.DevId.{DevId}
@@ -18,15 +16,13 @@ use Rattle.irt_base.specs.declared.plants.Mode.{Mode}
 use Rattle.irt_base.specs.declared.plants.Mode.TheVariants as modes
 use Rattle.irt_base.specs.declared.plants.Plant.{Plant}
 use Rattle.irt_route.specs.Trees.{Parents, parent_at}
-use Rattle.plan_rules.specs.Way.{Setup, entry_at, Leaves, IsAnchor, IsParent}
+use Rattle.plan_rules.specs.Way.{Setup, entry_at, Leaves, IsAnchor}
 use Rattle.plan_rules.specs.SendWindow.{SendWindow, HasWindow, at_anchor, behind}
-use Rattle.plan_rules.specs.Frames.{IsBefore, IsForwarded}
 use Rattle.plan_rules.specs.Tree.{Consumes}
 use Rattle.fit_rules.specs.declared.frame_plan.FramePlan.{FramePlan}
-use Rattle.fit_rules.specs.Shape.{alone, moved, entry_of, IsOn, IsSentBy, IsReceivedFrom, IsRatioFor, IsEntryOf, HasShape}
-use Rattle.fit_rules.specs.Fit.{IsUsing, AreClear, IsClear, IsClearAt, HasRoom, IsReady, IsFitted, IsInPhase, IsLastEnd, end_time}
+use Rattle.fit_rules.specs.Shape.{entry_of, IsOn, IsSentBy, IsReceivedFrom, IsRatioFor, IsEntryOf}
 use Rattle.fit_rules.proofs.Bytes.{one_at}
-use Rattle.fit_rules.proofs.Entries.{no_entry, entry_from, entry_stands}
+use Rattle.fit_rules.proofs.Entries.{no_entry}
 use Rattle.fit_rules.proofs.Lists.{place_of}
 
 abbrev pub ports : ℕ → List PortDelay

@@ -1,33 +1,19 @@
 -- The definitions computed where the device in the middle forwards in absolute time. Beside the first frame, which
 -- starts at 0 and 5800, the second one starts at 6720 and 12520, and its red period ends at 19240.
-use Rattle.std.proofs.Common.{◌≡◌, ℕ, zero, suc, ◌+◌, ◌<◌, ◌≤◌, ◌^◌, ◌↔◌, ◌⊎◌, List, [], ◌∷◌, Option, Some, None, refl, inl, inr, arith, replicate, slice_get, sym, ◌∙◌, ap, subst}
+use Rattle.std.proofs.Common.{◌≡◌, ℕ, zero, suc, ◌+◌, ◌<◌, ◌≤◌, List, [], ◌∷◌, Some, refl, inl, inr, arith, slice_get, sym, ◌∙◌, ap, subst}
 use Rattle.std.specs.Prelude.{IsBitSet, Contains}
-use Rattle.std.proofs.lemmas.Nat.Bits.{bit_at_above}
 use Rattle.std.proofs.lemmas.Option.{same_Some}
-use Rattle.irt_base.specs.Cycle.{SharesCycle}
-use Rattle.irt_base.specs.Valid.{IsRatio}
 use Rattle.irt_base.specs.declared.blocks.Entry.{Entry}
-use Rattle.irt_base.specs.declared.blocks.PortDelay.{PortDelay}
-use Rattle.irt_base.specs.declared.numbers.DevId.{DevId}
-use Rattle.irt_base.specs.declared.numbers.PortNo.{PortNo}
-use Rattle.irt_base.specs.declared.plants.Clocks.TheVariants as clocks
-use Rattle.irt_base.specs.declared.plants.Demand.{Demand}
-use Rattle.irt_base.specs.declared.plants.Device.{Device}
-use Rattle.irt_base.specs.declared.plants.Link.{Link}
 use Rattle.irt_base.specs.declared.plants.Mode.TheVariants as modes
 use Rattle.irt_base.specs.declared.plants.Plant.{Plant}
-use Rattle.irt_route.specs.Trees.{Parents, parent_at}
-use Rattle.plan_rules.specs.Way.{Setup, entry_at, Leaves, IsAnchor, IsParent}
-use Rattle.plan_rules.specs.SendWindow.{SendWindow, HasWindow, at_anchor, behind}
-use Rattle.plan_rules.specs.Frames.{IsBefore, IsForwarded}
-use Rattle.plan_rules.specs.Tree.{Consumes}
+use Rattle.plan_rules.specs.Way.{entry_at, IsAnchor}
+use Rattle.plan_rules.specs.SendWindow.{SendWindow, at_anchor}
 use Rattle.fit_rules.specs.declared.frame_plan.FramePlan.{FramePlan}
-use Rattle.fit_rules.specs.Shape.{alone, moved, entry_of, IsOn, IsSentBy, IsReceivedFrom, IsRatioFor, IsEntryOf, HasShape}
-use Rattle.fit_rules.specs.Fit.{IsUsing, AreClear, IsClear, IsClearAt, HasRoom, IsReady, IsFitted, IsInPhase, IsLastEnd, end_time}
-use Rattle.fit_rules.proofs.Bytes.{one_at}
+use Rattle.fit_rules.specs.Shape.{alone, entry_of, HasShape}
+use Rattle.fit_rules.specs.Fit.{IsUsing, AreClear, IsClearAt, HasRoom, IsReady, IsFitted, IsInPhase, IsLastEnd, end_time}
 use Rattle.fit_rules.proofs.Entries.{no_entry, entry_from, entry_stands}
 use Rattle.fit_rules.proofs.Lists.{place_of}
-use Rattle.fit_rules.proofs.Line.{parents, line, entry, plan, demand, device, from, at, bit_one, bit_two, bit_four, each_entry, full_tree, one_cycle, own_window, leaves_first}
+use Rattle.fit_rules.proofs.Line.{parents, line, entry, plan, demand, device, at, bit_one, bit_two, bit_four, each_entry, full_tree, one_cycle, own_window, leaves_first}
 
 abbrev absolute : Plant
 absolute = line modes.Absolute

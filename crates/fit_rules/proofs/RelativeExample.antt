@@ -1,27 +1,24 @@
 -- The definitions computed where the device in the middle forwards in relative time: there a window is 2000 wide, so
 -- that the second frame starts at 8720, and its red period ends at 21240.
-use Rattle.std.proofs.Common.{◌≡◌, ℕ, zero, suc, ◌+◌, ◌<◌, ◌≤◌, ◌⊎◌, List, [], ◌∷◌, Option, Some, None, true, false, refl, inl, inr, arith, slice_get, sym, ◌∙◌, ap, subst}
+use Rattle.std.proofs.Common.{◌≡◌, ℕ, zero, suc, ◌+◌, ◌<◌, ◌≤◌, ◌⊎◌, List, [], ◌∷◌, Some, true, refl, inl, inr, arith, slice_get, sym, ◌∙◌, ap, subst}
 use Rattle.std.specs.Prelude.{IsBitSet, Contains}
-use Rattle.std.specs.List.{AllByRecursion}
 use Rattle.std.proofs.lemmas.Bool.{cases_Bool, or_cases, both_ways}
 use Rattle.std.proofs.lemmas.Option.{same_Some}
-use Rattle.irt_base.specs.Cycle.{SharesCycle}
 use Rattle.irt_base.specs.Wiring.{begins_at, ends_at, touches, link_at, far_end, peer_of, hop_of}
 use Rattle.irt_base.specs.declared.blocks.Entry.{Entry}
 use Rattle.irt_base.specs.declared.numbers.DevId.{DevId}
 use Rattle.irt_base.specs.declared.numbers.PortNo.{PortNo}
-use Rattle.irt_base.specs.declared.plants.Device.{Device}
 use Rattle.irt_base.specs.declared.plants.Link.{Link}
 use Rattle.irt_base.specs.declared.plants.Mode.TheVariants as modes
 use Rattle.irt_base.specs.declared.plants.Plant.{Plant}
-use Rattle.plan_rules.specs.Way.{Setup, entry_at, Leaves, IsAnchor, IsParent}
+use Rattle.plan_rules.specs.Way.{Setup, entry_at, IsAnchor}
 use Rattle.plan_rules.specs.SendWindow.{SendWindow, HasWindow, at_anchor, behind}
 use Rattle.fit_rules.specs.declared.frame_plan.FramePlan.{FramePlan}
-use Rattle.fit_rules.specs.Shape.{alone, moved, entry_of}
+use Rattle.fit_rules.specs.Shape.{alone}
 use Rattle.fit_rules.specs.Fit.{IsUsing, AreClear, IsClearAt, HasRoom, IsFitted, IsLastEnd, end_time}
 use Rattle.fit_rules.proofs.Entries.{no_entry, entry_from, entry_stands}
 use Rattle.fit_rules.proofs.Line.{line, link, entry, plan, device, from, at, bit_one, bit_two, bit_four, own_window, leaves_first}
-use Rattle.fit_rules.proofs.Links.{found, mapped, begins, ends, far_of_begin, far_of_end}
+use Rattle.fit_rules.proofs.Links.{found, mapped, begins, far_of_begin, far_of_end}
 use Rattle.fit_rules.proofs.Lists.{place_of}
 
 abbrev relative : Plant
