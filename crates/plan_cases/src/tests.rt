@@ -8,6 +8,7 @@ use irt_window::windows::{Window, WindowFault};
 use link_index::index::LinkIndex;
 use plan_check::check::{Verdict, check, judge_plan};
 use plan_rules::place::{Place, Reject};
+use std::alloc::Global;
 use std::test::Fail;
 
 /// A rule and the device, port, frame and other frame at which it fails.
@@ -26,107 +27,62 @@ fn reject(failure: Failure) -> Reject {
     }
 }
 
-const MEET: Failure = (6, 0, 1, 0x0100, 0x0101);
+/// Changes of the line that every rule allows.
+const ALLOWED: [&[Edit]; 3] = [
+    &[],
+    &[
+        (ALL, 0x0100, Change::Rate(2, 1)),
+        (ALL, 0x0101, Change::Rate(2, 2)),
+        (0, 0x0101, Change::Offset(0)),
+    ],
+    &[
+        (ALL, 0x0100, Change::Rate(2, 1)),
+        (ALL, 0x0101, Change::Rate(4, 2)),
+        (0, 0x0101, Change::Offset(0)),
+    ],
+];
 
-/// A sample, its changes, and the first rule that fails.
-const VERDICTS: [(Sample<'static>, &[Edit], Option<Failure>); 34] = [
-    (LINE, &[], None),
-    (LINE, &[(2, 0, Change::Header(0))], Some((1, 2, 0, 0, 0))),
-    (LINE, &[(2, 0, Change::Header(1))], Some((1, 2, 0, 0, 0))),
-    (LINE, &[(2, 0, Change::Header(2))], Some((1, 2, 0, 0, 0))),
-    (LINE, &[(2, 0, Change::Header(3))], Some((1, 2, 0, 0, 0))),
-    (LINE, &[(2, 0, Change::Header(4))], Some((1, 2, 0, 0, 0))),
-    (LINE, &[(2, 0, Change::Header(5))], Some((1, 2, 0, 0, 0))),
-    (LINE, &[(2, 0, Change::Header(6))], Some((1, 2, 0, 0, 0))),
-    (LINE, &[(2, 0, Change::Header(7))], Some((1, 2, 0, 0, 0))),
-    (LINE, &[(2, 0, Change::Header(8))], Some((1, 2, 0, 0, 0))),
-    (LINE, &[(2, 0, Change::Header(9))], Some((1, 2, 0, 0, 0))),
-    (LINE, &[(2, 0, Change::Header(10))], Some((1, 2, 0, 0, 0))),
+/// Changes of the line, and the first rule that fails then.
+const FRAMES: [(&[Edit], Failure); 8] = [
+    (&[(2, 0x0100, Change::NoEntry)], (2, 1, 0, 0x0100, 0)),
+    (&[(1, 0x0100, Change::NoEntry)], (2, 0, 0, 0x0100, 0)),
+    (&[(2, 0x0100, Change::Length(48))], (3, 2, 0, 0x0100, 0)),
+    (&[(2, 0x0100, Change::Rate(2, 1))], (3, 2, 0, 0x0100, 0)),
+    (&[(2, 0x0100, Change::Offset(1))], (4, 2, 0, 0x0100, 0)),
+    (&[(1, 0x0100, Change::Offset(5799))], (5, 1, 0, 0x0100, 0)),
     (
-        LINE,
-        &[(2, 0x0100, Change::NoEntry)],
-        Some((2, 1, 0, 0x0100, 0)),
+        &[(0, 0x0101, Change::Offset(6719))],
+        (6, 0, 1, 0x0100, 0x0101),
     ),
     (
-        LINE,
-        &[(1, 0x0100, Change::NoEntry)],
-        Some((2, 0, 0, 0x0100, 0)),
-    ),
-    (APART, &[], Some((2, 0, 0, 0x0100, 0))),
-    (
-        LINE,
-        &[(2, 0x0100, Change::Length(48))],
-        Some((3, 2, 0, 0x0100, 0)),
-    ),
-    (
-        LINE,
-        &[(2, 0x0100, Change::Rate(2, 1))],
-        Some((3, 2, 0, 0x0100, 0)),
-    ),
-    (
-        LINE,
-        &[(2, 0x0100, Change::Offset(1))],
-        Some((4, 2, 0, 0x0100, 0)),
-    ),
-    (
-        LINE,
-        &[(1, 0x0100, Change::Offset(5799))],
-        Some((5, 1, 0, 0x0100, 0)),
-    ),
-    (LINE, &[(0, 0x0101, Change::Offset(6719))], Some(MEET)),
-    (
-        LINE,
-        &[
-            (ALL, 0x0100, Change::Rate(2, 1)),
-            (ALL, 0x0101, Change::Rate(2, 2)),
-            (0, 0x0101, Change::Offset(0)),
-        ],
-        None,
-    ),
-    (
-        LINE,
         &[
             (ALL, 0x0100, Change::Rate(2, 1)),
             (ALL, 0x0101, Change::Rate(4, 3)),
             (0, 0x0101, Change::Offset(0)),
         ],
-        Some(MEET),
+        (6, 0, 1, 0x0100, 0x0101),
     ),
+];
+
+/// The same of its periods and of what its blocks repeat. The ninth and the tenth are 1 ns apart.
+const BLOCKS: [(&[Edit], Failure); 9] = [
     (
-        LINE,
-        &[
-            (ALL, 0x0100, Change::Rate(2, 1)),
-            (ALL, 0x0101, Change::Rate(4, 2)),
-            (0, 0x0101, Change::Offset(0)),
-        ],
-        None,
-    ),
-    (RELATIVE, &[], None),
-    (
-        RELATIVE,
-        &[(1, 0x0101, Change::Offset(12519))],
-        Some((6, 1, 2, 0x0100, 0x0101)),
-    ),
-    (
-        LINE,
         &[(
             0,
             0,
             Change::Periods(1, 0, [0, 13439, 13439, 0, 250000, 250000]),
         )],
-        Some((7, 0, 1, 0x0101, 0)),
+        (7, 0, 1, 0x0101, 0),
     ),
     (
-        LINE,
         &[(
             1,
             0,
             Change::Periods(1, 15, [0, 250000, 250000, 0, 16239, 250000]),
         )],
-        Some((8, 1, 1, 0x0101, 0)),
+        (8, 1, 1, 0x0101, 0),
     ),
     (
-        LINE,
         &[
             (0, 0x0101, Change::Offset(990481)),
             (0, 0, Change::Periods(1, 16, [0, 1000000, 1000000, 0, 0, 0])),
@@ -136,10 +92,9 @@ const VERDICTS: [(Sample<'static>, &[Edit], Option<Failure>); 34] = [
                 Change::Periods(1, 16, [0, 250000, 250000, 0, 1000001, 1000001]),
             ),
         ],
-        Some((9, 0, 1, 0x0101, 0)),
+        (9, 0, 1, 0x0101, 0),
     ),
     (
-        LINE,
         &[
             (0, 0x0101, Change::Offset(990480)),
             (0, 0, Change::Periods(1, 16, [0, 1000000, 1000000, 0, 0, 0])),
@@ -149,41 +104,30 @@ const VERDICTS: [(Sample<'static>, &[Edit], Option<Failure>); 34] = [
                 Change::Periods(1, 16, [0, 250000, 250000, 0, 1000001, 1000001]),
             ),
         ],
-        Some((10, 0, 1, 0, 0)),
+        (10, 0, 1, 0, 0),
     ),
     (
-        LINE,
         &[(2, 0, Change::Range(0x0101, 0x0fff))],
-        Some((11, 2, 0, 0x0100, 0)),
+        (11, 2, 0, 0x0100, 0),
     ),
+    (&[(2, 0, Change::Range(0x0100, 0x0ffe))], (12, 2, 0, 0, 0)),
     (
-        LINE,
-        &[(2, 0, Change::Range(0x0100, 0x0ffe))],
-        Some((12, 2, 0, 0, 0)),
-    ),
-    (
-        LINE,
         &[(
             1,
             0,
             Change::Periods(2, 7, [0, 250000, 250001, 0, 250000, 250000]),
         )],
-        Some((13, 1, 2, 0, 0)),
+        (13, 1, 2, 0, 0),
     ),
     (
-        LINE,
         &[(
             2,
             0,
             Change::Periods(1, 15, [0, 250000, 250000, 0, 250000, 1000001]),
         )],
-        Some((14, 2, 1, 0, 0)),
+        (14, 2, 1, 0, 0),
     ),
-    (
-        LINE,
-        &[(2, 0, Change::Timeout(100))],
-        Some((15, 2, 0, 0, 0)),
-    ),
+    (&[(2, 0, Change::Timeout(100))], (15, 2, 0, 0, 0)),
 ];
 
 /// Changes of the ring, and the device and frame at which its entries first form no tree.
@@ -204,21 +148,47 @@ const BREAKS: [(&[Edit], (u8, u16)); 7] = [
     ),
 ];
 
+/// The first rule of a changed sample that fails.
+fn judged(alloc: Global, sample: &Sample<'_>, edits: &[Edit]) -> Result<Option<Reject>, Fail> {
+    let (plant, bundles) = plan_of(alloc, sample, edits)?;
+    Ok(judge_plan(alloc, &plant, bundles.as_slice())?)
+}
+
 #[test]
-fn verdicts(rt: HostRuntime) -> Result<(), Fail> {
-    let alloc = rt.alloc();
-    for (number, (sample, edits, failure)) in VERDICTS.iter().enumerate() {
-        let (plant, bundles) = plan_of(alloc, sample, edits)?;
-        let found = judge_plan(alloc, &plant, bundles.as_slice())?;
-        assert_eq!(rt; found, failure.map(reject), "case {number}");
+fn verdicts_on_a_line(rt: HostRuntime) -> Result<(), Fail> {
+    let sample = LINE;
+    for edits in ALLOWED {
+        assert_eq!(rt; judged(rt.alloc(), &sample, edits)?, None);
     }
+    for number in 0..11 {
+        let edits = [(2, 0, Change::Header(number))];
+        let found = judged(rt.alloc(), &sample, &edits)?;
+        assert_eq!(rt; found, Some(reject((1, 2, 0, 0, 0))), "{number}");
+    }
+    for cases in [FRAMES.as_slice(), BLOCKS.as_slice()] {
+        for (edits, failure) in cases {
+            let found = judged(rt.alloc(), &sample, edits)?;
+            assert_eq!(rt; found, Some(reject(*failure)));
+        }
+    }
+    Ok(())
+}
+
+#[test]
+fn verdicts_on_other_plants(rt: HostRuntime) -> Result<(), Fail> {
+    let apart = judged(rt.alloc(), &APART, &[])?;
+    assert_eq!(rt; apart, Some(reject((2, 0, 0, 0x0100, 0))));
+    assert_eq!(rt; judged(rt.alloc(), &RELATIVE, &[])?, None);
+    let sooner = judged(rt.alloc(), &RELATIVE, &[(1, 0x0101, Change::Offset(12519))])?;
+    assert_eq!(rt; sooner, Some(reject((6, 1, 2, 0x0100, 0x0101))));
+    let ring = RING;
     for (edits, (device, frame)) in BREAKS {
-        let (plant, bundles) = plan_of(alloc, &RING, edits)?;
-        let found = judge_plan(alloc, &plant, bundles.as_slice())?;
+        let found = judged(rt.alloc(), &ring, edits)?;
         assert_eq!(rt; found, Some(reject((2, device, 0, frame, 0))));
-        let fault = windows(alloc, &plant, bundles.as_slice()).err();
-        assert_eq!(rt; fault, Some(WindowFault::NotATree));
     }
+    let (plant, bundles) = plan_of(rt.alloc(), &APART, &[])?;
+    let fault = windows(rt.alloc(), &plant, bundles.as_slice()).err();
+    assert_eq!(rt; fault, Some(WindowFault::NotATree));
     Ok(())
 }
 
@@ -241,26 +211,23 @@ const WINDOWS: [(u8, u16, Option<(i64, i64, u8)>, Option<(u8, u8)>); 11] = [
 fn an_accepted_ring(rt: HostRuntime) -> Result<(), Fail> {
     let alloc = rt.alloc();
     let (plant, bundles) = plan_of(alloc, &RING, &[])?;
-    match check(alloc, &plant, bundles.as_slice())? {
-        Verdict::Reject(reject) => assert!(rt; false, "{reject:?}"),
-        Verdict::Accept(accepted) => {
-            accepted.facts();
-            assert_eq!(rt; accepted.plant().window, 1000);
-            assert_eq!(rt; accepted.bundles().len(), 5);
-            assert_eq!(rt; accepted.windows().ways().len(), 5);
-            for (device, frame, window, parent) in WINDOWS {
-                let found = accepted.windows().at(DevId(device), FrameId(frame));
-                let wanted = window.map(|(lo, hi, anchor)| Window {
-                    lo,
-                    hi,
-                    anchor: DevId(anchor),
-                });
-                assert_eq!(rt; found, wanted, "the window of {frame} at {device}");
-                let found = accepted.windows().parent(DevId(device), FrameId(frame));
-                let wanted = parent.map(|(from, port)| (DevId(from), PortNo(port)));
-                assert_eq!(rt; found, wanted, "the parent of {frame} at {device}");
-            }
-        }
+    let Verdict::Accept(accepted) = check(alloc, &plant, bundles.as_slice())? else {
+        return Err("the ring is refused".into());
+    };
+    accepted.facts();
+    assert_eq!(rt; accepted.plant().window, 1000);
+    assert_eq!(rt; accepted.bundles().len(), 5);
+    for (device, frame, window, parent) in WINDOWS {
+        let found = accepted.windows().at(DevId(device), FrameId(frame));
+        let wanted = window.map(|(lo, hi, anchor)| Window {
+            lo,
+            hi,
+            anchor: DevId(anchor),
+        });
+        assert_eq!(rt; found, wanted, "the window of {frame} at {device}");
+        let found = accepted.windows().parent(DevId(device), FrameId(frame));
+        let wanted = parent.map(|(from, port)| (DevId(from), PortNo(port)));
+        assert_eq!(rt; found, wanted, "the parent of {frame} at {device}");
     }
     Ok(())
 }
