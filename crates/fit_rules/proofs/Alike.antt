@@ -20,7 +20,8 @@ use Rattle.fit_rules.specs.Fit.{IsUsing, IsClearAt, HasRoom, IsReady}
 use Rattle.fit_rules.specs.Moves.{IsAlike, IsShifted, offset_at, AgreeAbove}
 use Rattle.fit_rules.proofs.Bytes.{same_bytes}
 use Rattle.fit_rules.proofs.Entries.{entry_in, no_entry, entry_from, entry_stands}
-use Rattle.fit_rules.proofs.Sliding.{Twin, HasTwins, HasOffset, alike_leaves, alike_parent, alike_self, flipped, slides, moved_offset}
+use Rattle.fit_rules.proofs.Ways.{same_way}
+use Rattle.fit_rules.proofs.Sliding.{Twin, HasTwins, HasOffset, way_of, ways_of, way_leaves, way_parent, alike_self, flipped, slides, moved_offset}
 
 alike_then : (e f g : Entry) → IsAlike e f → IsAlike f g → IsAlike e g
 alike_then e f g first second = record {
@@ -127,32 +128,17 @@ offset_of plant frame plan device e is = ap (option_map (λ (x : Entry). x.send_
 
 module _ (plant : Plant) (parents : Parents) (demand : Demand) (ratio phase : ℕ) where
   -- entries of one device in two plans of one shape
-  same_rx : (device : ℕ) (e g : Entry) →
-      IsEntryOf plant parents demand ratio phase device e → IsEntryOf plant parents demand ratio phase device g → IsOn demand parents device → g.rx_port ≡ e.rx_port
-  same_rx device e g first second (inl own) = second.provided own ∙ sym (first.provided own)
-  same_rx device e g first second (inr (from, at)) =
-      ap (λ (x : DevId × PortNo). x.1.0) (same_Some (let x : DevId × PortNo = (record { 0 = device }, record { 0 = g.rx_port }) in x) _
-      (sym (second.received from at).leads ∙ (first.received from at).leads))
-
-  same_bits : (device : ℕ) (e g : Entry) →
-      IsEntryOf plant parents demand ratio phase device e → IsEntryOf plant parents demand ratio phase device g → (k : ℕ) → IsBitSet g.tx k → IsBitSet e.tx k
-  same_bits device e g first second zero bit = first.kept.1 (second.kept.0 bit)
-  same_bits device e g first second (suc k) bit = (first.sent (suc k) (omega arith)).1 ((second.sent (suc k) (omega arith)).0 bit)
-
-  pub same_entry : (device : ℕ) (e g : Entry) →
-      IsEntryOf plant parents demand ratio phase device e → IsEntryOf plant parents demand ratio phase device g → IsAlike e g
-  same_entry device e g first second = record {
-    frame = second.frame ∙ sym first.frame;
-    length = second.length ∙ sym first.length;
-    ratio = second.ratio_is ∙ sym first.ratio_is;
-    phase = second.phase_is ∙ sym first.phase_is;
-    rx_port = same_rx device e g first second first.on;
-    tx =
-        same_bytes g.tx e.tx (λ k. (
-          same_bits device e g first second k,
-          same_bits device g e second first k,
-        ));
-  }
+  pub same_entry : (device : ℕ) (e g : Entry) → IsEntryOf plant parents demand ratio phase device e →
+      IsEntryOf plant parents demand ratio phase device g → IsAlike e g
+  same_entry device e g first second =
+      let way = same_way plant parents demand ratio phase ratio phase device e g first second in record {
+        frame = second.frame ∙ sym first.frame;
+        length = way.length;
+        ratio = second.ratio_is ∙ sym first.ratio_is;
+        phase = second.phase_is ∙ sym first.phase_is;
+        rx_port = way.rx_port;
+        tx = way.tx;
+      }
 
   -- the frame of an entry that stands
   pub entry_frame : (plan : FramePlan) → HasShape plant parents demand ratio phase plan →
@@ -193,11 +179,12 @@ module _ (plant : Plant) (parents : Parents) (demand : Demand) (ratio phase : �
       let frames = same_frame other plan second first in
       let twins = moved_twins plant other.frame.0 other plan anchor x x (twins_of other plan second first) in
       let (e, at, alike) = twins device g using.stands in
-      let (w, sends, shifted) = slides plant (alone plant (moved other anchor x)).blocks (alone plant (moved plan anchor x)).blocks other.frame.0 anchor x x twins
+      let (w, sends, shifted) = slides plant (alone plant (moved other anchor x)).blocks (alone plant (moved plan anchor x)).blocks other.frame.0 anchor x x
+      (ways_of plant other.frame.0 (alone plant (moved other anchor x)).blocks (alone plant (moved plan anchor x)).blocks twins)
       (moved_offset plant other.frame.0 other.entries anchor x) (moved_offset plant other.frame.0 plan.entries anchor x) device v hangs using.sends in
       let windows = same_window x v w shifted in
       let now : IsSending (alone plant (moved plan anchor x)) device port other.frame.0 e v =
-      record { stands = at; leaves = alike_leaves g e port alike using.leaves; sends = subst (HasWindow (alone plant (moved plan anchor x)) other.frame.0 device) (sym windows) sends } in
+      record { stands = at; leaves = way_leaves g e port (way_of g e alike) using.leaves; sends = subst (HasWindow (alone plant (moved plan anchor x)) other.frame.0 device) (sym windows) sends } in
       let its : IsUsing plant (moved plan anchor x) device port e v = subst (λ (f : FrameId). IsSending (alone plant (moved plan anchor x)) device port f.0 e v) frames now in
       alike_room plant placed device port e g v (flipped g e alike) (clear device port e v its hangs)
 
@@ -215,7 +202,7 @@ module _ (plant : Plant) (parents : Parents) (demand : Demand) (ratio phase : �
       let after : HasOffset plant (alone plant other).blocks plan.frame.0 w.anchor x =
       λ e is. same_Some e.send_offset x (sym (offset_of plant plan.frame.0 other w.anchor e is) ∙ sym agree ∙ here) in
       let (v, now, shifted) = slides plant (alone plant plan).blocks (alone plant other).blocks plan.frame.0 w.anchor x x
-      (twins_of plan other first second) before after device w refl sends in
+      (ways_of plant plan.frame.0 (alone plant plan).blocks (alone plant other).blocks (twins_of plan other first second)) before after device w refl sends in
       subst (HasWindow (alone plant other) plan.frame.0 device) (sym (same_window x w v shifted)) now
 
   forwarded_alike : (plan other : FramePlan) →
@@ -230,7 +217,9 @@ module _ (plant : Plant) (parents : Parents) (demand : Demand) (ratio phase : �
         parent = comes.parent;
         port = comes.port;
         stands = stands;
-        comes = alike_parent plant (alone plant plan).blocks (alone plant other).blocks plan.frame.0 twins device e its comes.parent comes.port alike comes.comes;
+        comes = way_parent plant (alone plant plan).blocks (alone plant other).blocks plan.frame.0
+            (ways_of plant plan.frame.0 (alone plant plan).blocks (alone plant other).blocks twins) device e its comes.parent comes.port
+            (way_of e its alike) comes.comes;
         hops = comes.hops;
         sends = window_alike plan other first second comes.parent w comes.sends (agree hop w comes);
       } in

@@ -17,9 +17,11 @@ pub mod PeriodRules
 pub mod Placing
 pub mod Routed
 pub mod Shapes
+pub mod Shifts
 pub mod Sliding
 pub mod Sorted
 pub mod Valid
+pub mod Ways
 mod Line
 mod LineExample
 mod RelativeExample

@@ -20,7 +20,7 @@ use Rattle.fit_rules.specs.Moves.{IsAlike, offset_at, AgreeAbove}
 use Rattle.fit_rules.proofs.Alike.{clear_alike, ready_alike, twin_of, stands_alone, same_frame}
 use Rattle.fit_rules.proofs.Entries.{no_entry, entry_from}
 use Rattle.fit_rules.proofs.Routed.{IsRouted, reached}
-use Rattle.fit_rules.proofs.Sliding.{alike_anchor, flipped}
+use Rattle.fit_rules.proofs.Sliding.{way_anchor, way_of, flipped}
 
 -- the least number of which either of two words holds that hold of the same numbers
 pub least_is_one : (P Q : ℕ → Type 0) (from x y : ℕ) → ((n : ℕ) → P n → Q n) → ((n : ℕ) → Q n → P n) → IsLeastFrom P from x → IsLeastFrom Q from y → x ≡ y
@@ -118,7 +118,7 @@ module _ (plant : Plant) (parents : Parents) (placed : List FramePlan) (demand :
       let (g, at, alike) = twin_of plant parents demand ratio phase plan other pair.first pair.second device e is in
       let mine = pair.fitted device e (stands_alone plant parents demand ratio phase plan pair.first device e is) anchor in
       let its = pair.also device g (stands_alone plant parents demand ratio phase other pair.second device g at)
-      (alike_anchor plant (alone plant plan).blocks (alone plant other).blocks device e g alike anchor) in
+      (way_anchor plant (alone plant plan).blocks (alone plant other).blocks device e g (way_of e g alike) anchor) in
       let offsets = fitted_alike plant parents demand pair.routed placed ratio phase plan other pair.first pair.second device e g is at agree mine its in
       ap (option_map (λ (x : Entry). x.send_offset)) is ∙ ap Some offsets ∙ sym (ap (option_map (λ (x : Entry). x.send_offset)) at)
 
@@ -158,7 +158,7 @@ module _ (plant : Plant) (parents : Parents) (placed : List FramePlan) (demand :
         (agree e (stands_alone plant parents demand ratio phase plan pair.first device e is))
         ∙ ap (option_map (λ (x : Entry). x.send_offset)) at)) in
         let also : ¬ IsAnchor (alone plant other) device g =
-        λ anchor. idle (alike_anchor plant (alone plant other).blocks (alone plant plan).blocks device g e (flipped e g alike) anchor) in
+        λ anchor. idle (way_anchor plant (alone plant other).blocks (alone plant plan).blocks device g e (way_of g e (flipped e g alike)) anchor) in
         pair.first.idle device e is idle ∙ sym (pair.second.idle device g at also)
   ]
 

@@ -12,11 +12,8 @@ use Rattle.plan_rules.specs.SendWindow.{SendWindow, HasWindow, at_anchor, behind
 use Rattle.fit_rules.specs.declared.frame_plan.FramePlan.{FramePlan}
 use Rattle.fit_rules.specs.Shape.{alone, moved, with_offset}
 use Rattle.fit_rules.specs.Fit.{IsUsing, IsClearAt, end_time}
-use Rattle.fit_rules.specs.Moves.{IsAlike, IsShifted, AreTooClose}
+use Rattle.fit_rules.specs.Moves.{IsAlike, IsShifted, SharesWay, AreTooClose}
 use Rattle.fit_rules.proofs.Entries.{setup, entry_in, no_entry}
-
-pub alike_leaves : (e g : Entry) (port : ℕ) → IsAlike e g → Leaves e port → Leaves g port
-alike_leaves e g port is leaves = record { from_one = leaves.from_one; bit = subst (λ t. IsBitSet t port) (sym is.tx) leaves.bit }
 
 pub flipped : (e g : Entry) → IsAlike e g → IsAlike g e
 flipped e g is = record {
@@ -28,55 +25,73 @@ flipped e g is = record {
   tx = sym is.tx;
 }
 
-pub alike_anchor : (plant : Plant) (xs ys : List FrameBlock) (device : ℕ) (e g : Entry) → IsAlike e g →
-    IsAnchor (setup plant xs) device e → IsAnchor (setup plant ys) device g
-alike_anchor plant xs ys device e g is (inl own) = inl (is.rx_port ∙ own)
-alike_anchor plant xs ys device e g is (inr by) = inr (by.0, (by.1.0, alike_leaves e g by.1.0 is by.1.1))
+pub way_of : (e g : Entry) → IsAlike e g → SharesWay e g
+way_of e g is = record { length = is.length; rx_port = is.rx_port; tx = is.tx }
 
--- an alike entry stands there
+pub way_back : (e g : Entry) → SharesWay e g → SharesWay g e
+way_back e g is = record { length = sym is.length; rx_port = sym is.rx_port; tx = sym is.tx }
+
+pub way_leaves : (e g : Entry) (port : ℕ) → SharesWay e g → Leaves e port → Leaves g port
+way_leaves e g port is leaves = record { from_one = leaves.from_one; bit = subst (λ t. IsBitSet t port) (sym is.tx) leaves.bit }
+
+pub way_anchor : (plant : Plant) (xs ys : List FrameBlock) (device : ℕ) (e g : Entry) → SharesWay e g →
+    IsAnchor (setup plant xs) device e → IsAnchor (setup plant ys) device g
+way_anchor plant xs ys device e g is (inl own) = inl (is.rx_port ∙ own)
+way_anchor plant xs ys device e g is (inr by) = inr (by.0, (by.1.0, way_leaves e g by.1.0 is by.1.1))
+
+-- an alike entry stands there, or one of the same way
 abbrev pub Twin : Option Entry → Entry → Type 0
 Twin other e = (g : Entry) × (other ≡ Some g) × IsAlike e g
+
+abbrev pub WayTwin : Option Entry → Entry → Type 0
+WayTwin other e = (g : Entry) × (other ≡ Some g) × SharesWay e g
 
 -- each entry of a frame in one setup has its like in the other
 abbrev pub HasTwins : Plant → ℕ → List FrameBlock → List FrameBlock → Type 0
 HasTwins plant frame xs ys = (d : ℕ) (e : Entry) → entry_at (setup plant xs) d frame ≡ Some e → Twin (entry_at (setup plant ys) d frame) e
 
+abbrev pub HasWays : Plant → ℕ → List FrameBlock → List FrameBlock → Type 0
+HasWays plant frame xs ys = (d : ℕ) (e : Entry) → entry_at (setup plant xs) d frame ≡ Some e → WayTwin (entry_at (setup plant ys) d frame) e
+
+pub ways_of : (plant : Plant) (frame : ℕ) (xs ys : List FrameBlock) → HasTwins plant frame xs ys → HasWays plant frame xs ys
+ways_of plant frame xs ys twins d e is = let (g, at, alike) = twins d e is in (g, at, way_of e g alike)
+
 -- the anchor's offset
 abbrev pub HasOffset : Plant → List FrameBlock → ℕ → ℕ → ℕ → Type 0
 HasOffset plant blocks frame anchor x = (e : Entry) → entry_at (setup plant blocks) anchor frame ≡ Some e → e.send_offset ≡ x
 
-pub alike_parent : (plant : Plant) (xs ys : List FrameBlock) (frame : ℕ) → HasTwins plant frame xs ys → (device : ℕ) (e g : Entry) (parent port : ℕ) →
-    IsAlike e g → IsParent (setup plant xs) frame device e parent port → IsParent (setup plant ys) frame device g parent port
-alike_parent plant xs ys frame twins device e g parent port is comes = record {
+pub way_parent : (plant : Plant) (xs ys : List FrameBlock) (frame : ℕ) → HasWays plant frame xs ys → (device : ℕ) (e g : Entry) (parent port : ℕ) →
+    SharesWay e g → IsParent (setup plant xs) frame device e parent port → IsParent (setup plant ys) frame device g parent port
+way_parent plant xs ys frame ways device e g parent port is comes = record {
   received = subst (λ n. 1 ≤ n) (sym is.rx_port) comes.received;
   sent =
-      let (from, at, same) = twins parent comes.sent.0 comes.sent.1 in
-      (from, at, alike_leaves comes.sent.0 from port same comes.sent.2);
+      let (from, at, same) = ways parent comes.sent.0 comes.sent.1 in
+      (from, at, way_leaves comes.sent.0 from port same comes.sent.2);
   leads = subst (λ n. peer_of plant parent port ≡ Some (record { 0 = device }, record { 0 = n })) (sym is.rx_port) comes.leads;
 }
 
 abbrev pub ShiftedWindow : Plant → List FrameBlock → ℕ → ℕ → ℕ → ℕ → SendWindow → Type 0
 ShiftedWindow plant blocks frame device x y w = (v : SendWindow) × HasWindow (setup plant blocks) frame device v × IsShifted x y w v
 
-pub slides : (plant : Plant) (xs ys : List FrameBlock) (frame anchor x y : ℕ) → HasTwins plant frame xs ys →
+pub slides : (plant : Plant) (xs ys : List FrameBlock) (frame anchor x y : ℕ) → HasWays plant frame xs ys →
     HasOffset plant xs frame anchor x → HasOffset plant ys frame anchor y → (device : ℕ) (w : SendWindow) → w.anchor ≡ anchor →
     HasWindow (setup plant xs) frame device w → ShiftedWindow plant ys frame device x y w
-slides plant xs ys frame anchor x y twins first second _ _ same (at_anchor d e is own) =
-    let (g, at, alike) = twins d e is in
+slides plant xs ys frame anchor x y ways first second _ _ same (at_anchor d e is own) =
+    let (g, at, way) = ways d e is in
     let here : e.send_offset ≡ x = first e (subst (λ a. entry_at (setup plant xs) a frame ≡ Some e) same is) in
     let there : g.send_offset ≡ y = second g (subst (λ a. entry_at (setup plant ys) a frame ≡ Some g) same at) in (
       record { lo = g.send_offset; hi = g.send_offset; anchor = d },
-      at_anchor d g at (alike_anchor plant xs ys d e g alike own),
+      at_anchor d g at (way_anchor plant xs ys d e g way own),
       record { lo = omega arith; hi = omega arith; anchor = refl },
     )
-slides plant xs ys frame anchor x y twins first second _ _ same (behind d e parent port hop w dev is other comes sends hops held) =
-    let (g, at, alike) = twins d e is in
-    let (v, before, shifted) = slides plant xs ys frame anchor x y twins first second parent w same sends in
+slides plant xs ys frame anchor x y ways first second _ _ same (behind d e parent port hop w dev is other comes sends hops held) =
+    let (g, at, way) = ways d e is in
+    let (v, before, shifted) = slides plant xs ys frame anchor x y ways first second parent w same sends in
     let lo : v.lo + x ≡ w.lo + y = shifted.lo in
     let hi : v.hi + x ≡ w.hi + y = shifted.hi in (
       record { lo = v.lo + (hop + dev.bmin); hi = v.hi + (hop + dev.bmax); anchor = v.anchor },
-      behind d g parent port hop v dev at (λ own. other (alike_anchor plant ys xs d g e (flipped e g alike) own))
-          (alike_parent plant xs ys frame twins d e g parent port alike comes) before hops held,
+      behind d g parent port hop v dev at (λ own. other (way_anchor plant ys xs d g e (way_back e g way) own))
+          (way_parent plant xs ys frame ways d e g parent port way comes) before hops held,
       record { lo = omega arith; hi = omega arith; anchor = shifted.anchor },
     )
 
@@ -131,9 +146,10 @@ pub moves : (plant : Plant) (plan : FramePlan) (anchor x y device port : ℕ) (e
 moves plant plan anchor x y device port e w sending same =
     let twins = moved_twin plant plan.frame.0 plan.entries anchor x y in
     let (g, at, alike) = twins device e sending.stands in
-    let (v, sends, shifted) = slides plant (alone plant (moved plan anchor x)).blocks (alone plant (moved plan anchor y)).blocks plan.frame.0 anchor x y twins
+    let ways = ways_of plant plan.frame.0 (alone plant (moved plan anchor x)).blocks (alone plant (moved plan anchor y)).blocks twins in
+    let (v, sends, shifted) = slides plant (alone plant (moved plan anchor x)).blocks (alone plant (moved plan anchor y)).blocks plan.frame.0 anchor x y ways
     (moved_offset plant plan.frame.0 plan.entries anchor x) (moved_offset plant plan.frame.0 plan.entries anchor y) device w same sending.sends in
-    (g, v, alike, record { stands = at; leaves = alike_leaves e g port alike sending.leaves; sends = sends }, shifted)
+    (g, v, alike, record { stands = at; leaves = way_leaves e g port (way_of e g alike) sending.leaves; sends = sends }, shifted)
 
 pub blocked : (plant : Plant) (placed : List FramePlan) (plan : FramePlan) (anchor x y device port : ℕ) (e : Entry) (w : SendWindow) →
     IsUsing plant (moved plan anchor x) device port e w → w.anchor ≡ anchor →

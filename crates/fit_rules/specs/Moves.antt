@@ -8,6 +8,12 @@ use Rattle.plan_rules.specs.SendWindow.{SendWindow, slack_time}
 use Rattle.fit_rules.specs.declared.frame_plan.FramePlan.{FramePlan}
 use Rattle.fit_rules.specs.Shape.{alone, entry_of}
 
+-- The entries take the frame on one way: it comes by one port, leaves by the same ones, and is as long.
+pub record SharesWay (e g : Entry) : Type 0 where
+  pub length : g.data_length ≡ e.data_length
+  pub rx_port : g.rx_port ≡ e.rx_port
+  pub tx : g.tx ≡ e.tx
+
 -- the entries differ in nothing but the offset
 pub record IsAlike (e g : Entry) : Type 0 where
   pub frame : g.frame ≡ e.frame

@@ -10,14 +10,16 @@ ghost use Rattle.irt_base.specs.declared.plants.Plant.{Plant};
 ghost use Rattle.irt_route.specs.Routes.{RouteTables, IsRoutesOf};
 ghost use Rattle.irt_route.specs.Trees.{Parents};
 ghost use Rattle.plan_rules.specs.Expected.{IsSafe};
+ghost use Rattle.plan_rules.specs.Frames.{IsForwarded};
 ghost use Rattle.plan_rules.specs.Places.{IsAccepted};
 ghost use Rattle.plan_rules.specs.Plan.{IsPlan};
-ghost use Rattle.plan_rules.specs.SendWindow.{SendWindow, slack_time};
+ghost use Rattle.plan_rules.specs.SendWindow.{SendWindow, HasWindow, slack_time};
+ghost use Rattle.plan_rules.specs.Way.{IsAnchor};
 ghost use Rattle.fit_rules.specs.declared.frame_plan.FramePlan.{FramePlan};
 ghost use Rattle.fit_rules.specs.Blocks.{AreFirstFit};
-ghost use Rattle.fit_rules.specs.Shape.{entry_of, moved, IsRatioFor, HasShape};
+ghost use Rattle.fit_rules.specs.Shape.{alone, entry_of, moved, IsRatioFor, HasShape};
 ghost use Rattle.fit_rules.specs.Fit.{IsUsing, IsClearAt, IsReady, IsFitted, IsInPhase, IsLastEnd, IsFirstFit, end_time};
-ghost use Rattle.fit_rules.specs.Moves.{IsAlike, IsShifted, AreTooClose, AgreeAbove};
+ghost use Rattle.fit_rules.specs.Moves.{IsAlike, SharesWay, IsShifted, AreTooClose, AgreeAbove, offset_at};
 ghost use Rattle.fit_rules.specs.Order.{IsDemandAt, parents_of, IsFit, IsOverrun};
 
 use irt_route::laws::{chains_of_trees, parents_of_trees};
@@ -39,6 +41,35 @@ pub fn offsets_jump()
     ensures late { (plant : Plant) (placed : List FramePlan) (plan : FramePlan) (anchor x y device port : ℕ) →
         (e : Entry) (w : SendWindow) → IsUsing plant (moved plan anchor x) device port e w → w.anchor ≡ anchor →
         plant.red_max < end_time plant device e w → x ≤ y → ¬ IsClearAt plant placed plan anchor y }
+{}
+
+/// In two plans of a demand, in any ratios and phases, windows differ by the offsets of the anchors on which they hang.
+/// So one plan with all offsets 0 says how long after its anchor's offset each sending starts, and what arrives. An
+/// anchor's offset may be any.
+pub fn shapes_shift()
+    ensures windows { (plant : Plant) (parents : Parents) (demand : Demand) →
+        (ratio phase : ℕ) (plan : FramePlan) → HasShape plant parents demand ratio phase plan →
+        (other_ratio other_phase : ℕ) (other : FramePlan) → HasShape plant parents demand other_ratio other_phase other →
+        (device x y : ℕ) (w : SendWindow) → HasWindow (alone plant plan) plan.frame.0 device w →
+        offset_at plan w.anchor ≡ Some x → offset_at other w.anchor ≡ Some y →
+        (v : SendWindow) × HasWindow (alone plant other) other.frame.0 device v × IsShifted x y w v }
+    ensures sendings { (plant : Plant) (parents : Parents) (demand : Demand) →
+        (ratio phase : ℕ) (plan : FramePlan) → HasShape plant parents demand ratio phase plan →
+        (other_ratio other_phase : ℕ) (other : FramePlan) → HasShape plant parents demand other_ratio other_phase other →
+        (device port x y : ℕ) (e : Entry) (w : SendWindow) → IsUsing plant plan device port e w →
+        offset_at plan w.anchor ≡ Some x → offset_at other w.anchor ≡ Some y →
+        (g : Entry) × (v : SendWindow) × SharesWay e g × IsUsing plant other device port g v × IsShifted x y w v }
+    ensures arrivals { (plant : Plant) (parents : Parents) (demand : Demand) →
+        (ratio phase : ℕ) (plan : FramePlan) → HasShape plant parents demand ratio phase plan →
+        (other_ratio other_phase : ℕ) (other : FramePlan) → HasShape plant parents demand other_ratio other_phase other →
+        (device hop x y : ℕ) (e : Entry) (w : SendWindow) → IsForwarded (alone plant plan) device plan.frame.0 e hop w →
+        offset_at plan w.anchor ≡ Some x → offset_at other w.anchor ≡ Some y →
+        (g : Entry) × (v : SendWindow) × SharesWay e g ×
+        IsForwarded (alone plant other) device other.frame.0 g hop v × IsShifted x y w v }
+    ensures moved { (plant : Plant) (parents : Parents) (demand : Demand) →
+        (ratio phase : ℕ) (plan : FramePlan) → HasShape plant parents demand ratio phase plan →
+        (anchor x : ℕ) (e : Entry) → entry_of plan anchor ≡ Some e → IsAnchor (alone plant plan) anchor e →
+        HasShape plant parents demand ratio phase (moved plan anchor x) }
 {}
 
 /// Two plans of a demand in one ratio and phase have the same entries but for offsets. So an offset is clear in both or
