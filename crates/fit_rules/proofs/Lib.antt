@@ -13,6 +13,7 @@ pub mod Merged
 pub mod Once
 pub mod OneBundles
 pub mod OneFit
+pub mod OneText
 pub mod PeriodRules
 pub mod Placing
 pub mod Routed

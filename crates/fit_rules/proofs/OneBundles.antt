@@ -57,7 +57,7 @@ same_entries plans device xs ys a b =
 greatest_below : (Holds : ℕ → Type 0) (n m : ℕ) → IsGreatest Holds n → IsGreatest Holds m → n ≤ m
 greatest_below Holds n m a b = elim a.some [ inl some ↦ b.bound n some | inr (none, off) ↦ omega arith ]
 
-one_greatest : (Holds : ℕ → Type 0) (n m : ℕ) → IsGreatest Holds n → IsGreatest Holds m → n ≡ m
+pub one_greatest : (Holds : ℕ → Type 0) (n m : ℕ) → IsGreatest Holds n → IsGreatest Holds m → n ≡ m
 one_greatest Holds n m a b = omega (arith, greatest_below Holds n m a b, greatest_below Holds m n b a)
 
 one_period : (a b : Period) → a.red ≡ b.red → a.orange ≡ b.orange → a.green ≡ b.green → a ≡ b

@@ -14,13 +14,14 @@ ghost use Rattle.plan_rules.specs.Frames.{IsForwarded};
 ghost use Rattle.plan_rules.specs.Places.{IsAccepted};
 ghost use Rattle.plan_rules.specs.Plan.{IsPlan};
 ghost use Rattle.plan_rules.specs.SendWindow.{SendWindow, HasWindow, slack_time};
-ghost use Rattle.plan_rules.specs.Way.{IsAnchor};
+ghost use Rattle.plan_rules.specs.Way.{Setup, IsAnchor};
 ghost use Rattle.fit_rules.specs.declared.frame_plan.FramePlan.{FramePlan};
 ghost use Rattle.fit_rules.specs.Blocks.{AreFirstFit};
 ghost use Rattle.fit_rules.specs.Shape.{alone, entry_of, moved, IsRatioFor, HasShape};
 ghost use Rattle.fit_rules.specs.Fit.{IsUsing, IsClearAt, IsReady, IsFitted, IsInPhase, IsLastEnd, IsFirstFit, end_time};
 ghost use Rattle.fit_rules.specs.Moves.{IsAlike, SharesWay, IsShifted, AreTooClose, AgreeAbove, offset_at};
 ghost use Rattle.fit_rules.specs.Order.{IsDemandAt, parents_of, IsFit, IsOverrun};
+ghost use Rattle.fit_rules.specs.Printed.{IsSchedule, IsRedEnd};
 
 use irt_route::laws::{chains_of_trees, parents_of_trees};
 use plan_rules::law::accepted_plans_are_safe;
@@ -163,3 +164,11 @@ pub fn shapes_exist()
     parents_of_trees();
     chains_of_trees();
 }
+
+/// A frame of a plan has one ratio, phase and last planned time, and the plan one end of its red periods.
+pub fn printed_values_are_one()
+    ensures schedule { (setup : Setup) (demand : Demand) (ratio phase planned other_ratio other_phase other_planned : ℕ) →
+        IsSchedule setup demand ratio phase planned → IsSchedule setup demand other_ratio other_phase other_planned →
+        (ratio ≡ other_ratio) × (phase ≡ other_phase) × (planned ≡ other_planned) }
+    ensures red { (bundles : List Bundle) (end other : ℕ) → IsRedEnd bundles end → IsRedEnd bundles other → end ≡ other }
+{}
