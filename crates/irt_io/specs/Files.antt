@@ -23,11 +23,11 @@ abbrev pub IsLoad : Option Files → List ℕ → ℕ → Result (Vec ℕ) Shelf
 IsLoad None name limit result = ⊤
 IsLoad (Some files) name limit result = IsLoadOf (files name) limit result
 
--- a fault of `load` was counted
+-- A fault of `load` was counted. None was where the shelf found the name not held, or too long.
 abbrev pub IsLoadCause : ℕ → ℕ → Result (Vec ℕ) ShelfError → Type 0
 IsLoadCause before now (Ok v) = ⊤
-IsLoadCause before now (Err errors.Absent) = ⊤
-IsLoadCause before now (Err errors.TooLong) = ⊤
+IsLoadCause before now (Err errors.Absent) = now ≡ before
+IsLoadCause before now (Err errors.TooLong) = now ≡ before
 IsLoadCause before now (Err errors.Failed) = HasRisen before now
 IsLoadCause before now (Err errors.NoMemory) = ⊤
 

@@ -1,22 +1,33 @@
 //! The working folder as a shelf.
 
-ghost use Rattle.std.specs.Prelude.{◌≡◌, ◌≤◌, length, None, IfOk};
+ghost use Rattle.std.specs.Prelude.{◌≡◌, ◌≢◌, ◌≤◌, length, None, IfOk};
+ghost use Rattle.irt_base.specs.Valid.{AreBytes};
 ghost use Rattle.irt_io.specs.Fault.{IsLater, HasRisen};
 ghost use Rattle.irt_io.specs.Files.{Files, IsLoad, IsLoadCause, IsStore, IsStoreCause};
 
+use crate::bytes::are_bytes;
 use crate::shelf::{Shelf, ShelfError};
 use std::alloc::Global;
-use std::io::{ErrorKind, Read};
+use std::fs;
+use std::fs::{File, OpenFile};
+use std::io::{ErrorKind, Read, Write};
 use std::rt::Files;
-use std::{fs, io};
 
 /// The bytes that one system call reads.
 const CHUNK: usize = 4096;
 
+/// How many names beside a file are tried until one is free.
+const BESIDE_NAMES: u32 = 1000;
+
 /// The files of the working folder. It tells contracts no file, and counts its faults.
+///
+/// A file is stored beside its name and then renamed into place, so that a fault or the program's end
+/// at any moment leaves what the name held or the new bytes, whole. What was written beside is removed
+/// after a fault. No file that is there is written over in between.
 #[derive(Drop)]
 pub struct FolderShelf<R> {
     rt: R,
+    alloc: Global,
     faults: u64,
 }
 
@@ -24,10 +35,14 @@ impl<R> FolderShelf<R> {
     ghost use Rattle.irt_io.specs.Edge.{folder_faults};
 
     /// The working folder of this runtime.
-    pub fn new(rt: R) -> FolderShelf<R>
+    pub fn new(rt: R, alloc: Global) -> FolderShelf<R>
         ensures { folder_faults result ≡ 0 }
     {
-        FolderShelf { rt, faults: 0 }
+        FolderShelf {
+            rt,
+            alloc,
+            faults: 0,
+        }
     }
 }
 
@@ -50,9 +65,9 @@ impl<R: Files> Shelf for FolderShelf<R> {
     }
 
     fn store(&mut self, name: &str, bytes: &[u8]) -> Result<(), ShelfError> {
-        match fs::write(&self.rt, name, bytes) {
+        match store_beside(&self.rt, self.alloc, name, bytes) {
             Ok(()) => Ok(()),
-            Err(_) => Err(counted(&mut self.faults, ShelfError::Failed)),
+            Err(e) => Err(counted(&mut self.faults, e)),
         }
     }
 }
@@ -62,6 +77,7 @@ fn counted(faults: &mut u64, error: ShelfError) -> ShelfError
     ensures same { result ≡ error }
     ensures later { IsLater faults.old faults.new }
     ensures cause { error ≡ ShelfError.Failed → HasRisen faults.old faults.new }
+    ensures kept { error ≢ ShelfError.Failed → faults.new ≡ faults.old }
 {
     if error == ShelfError::Failed {
         *faults = faults.saturating_add(1);
@@ -81,12 +97,16 @@ fn cause_of(kind: ErrorKind) -> ShelfError {
 /// All that a file has, if that is at most `limit` bytes.
 fn read_up_to<F: Read>(alloc: Global, file: &mut F, limit: usize) -> Result<Vec<u8>, ShelfError>
     ensures bound { IfOk result (λ v. length v.items ≤ limit) }
+    ensures bytes { IfOk result (λ v. AreBytes v.items) }
 {
     let mut bytes = Vec::new(alloc);
     let mut chunk = [0; CHUNK];
     for _ in 0..u64::MAX {
         let count = match file.read(&mut chunk) {
-            Ok(0) => return Ok(bytes),
+            Ok(0) => {
+                are_bytes(bytes.as_slice());
+                return Ok(bytes);
+            }
             Ok(count) => count,
             Err(_) => return Err(ShelfError::Failed),
         };
@@ -98,4 +118,45 @@ fn read_up_to<F: Read>(alloc: Global, file: &mut F, limit: usize) -> Result<Vec<
         }
     }
     Err(ShelfError::Failed)
+}
+
+/// Stores bytes under the first free name beside this one, and renames them into place.
+fn store_beside<R: Files>(rt: &R, alloc: Global, name: &str, bytes: &[u8]) -> Result<(), ShelfError>
+    ensures absent { result ≢ Err ShelfError.Absent }
+    ensures long { result ≢ Err ShelfError.TooLong }
+{
+    for number in 0..BESIDE_NAMES {
+        let Ok(beside) = format!(in alloc; "{name}.{number}.new") else {
+            return Err(ShelfError::NoMemory);
+        };
+        match File::create_new(rt, beside.as_str()) {
+            Ok(file) => return store_through(rt, file, beside.as_str(), name, bytes),
+            Err(e) if e.kind() == ErrorKind::AlreadyExists => {}
+            Err(_) => return Err(ShelfError::Failed),
+        }
+    }
+    Err(ShelfError::Failed)
+}
+
+/// Writes bytes to a new file of the name `beside`, and renames it. Removes it after a fault.
+fn store_through<R: Files>(
+    rt: &R,
+    file: R::File,
+    beside: &str,
+    name: &str,
+    bytes: &[u8],
+) -> Result<(), ShelfError>
+    ensures absent { result ≢ Err ShelfError.Absent }
+    ensures long { result ≢ Err ShelfError.TooLong }
+{
+    if is_written(file, bytes) && fs::rename(rt, beside, name).is_ok() {
+        return Ok(());
+    }
+    let _ = fs::remove_file(rt, beside);
+    Err(ShelfError::Failed)
+}
+
+/// Whether a new file took all bytes, and the system has them on its disk.
+fn is_written<F: Write + OpenFile + Drop>(mut file: F, bytes: &[u8]) -> bool {
+    file.write_all(bytes).is_ok() && file.sync_all().is_ok()
 }

@@ -3,6 +3,7 @@
 //! A shelf and a sink each count their faults. A call fails by a fault only where that count rose.
 #![tactic(auto)]
 
+pub mod bytes;
 pub mod folder;
 pub mod mem_shelf;
 pub mod mem_sink;

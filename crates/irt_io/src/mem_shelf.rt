@@ -1,7 +1,8 @@
 //! A shelf in memory whose calls of given numbers fail.
 
-ghost use Rattle.std.specs.Prelude.{◌≡◌, ◌≤◌, ◌↔◌, ℕ, List, length, Some, None, IfOk, OnErr, IsErrOf, IsTrue, option_map};
+ghost use Rattle.std.specs.Prelude.{◌≡◌, ◌≤◌, ◌↔◌, ℕ, List, length, Some, None, IfOk, IfSome, OnErr, IsErrOf, IsTrue, option_map};
 ghost use Rattle.irt_io.specs.Fake.{next_fails, after_call};
+ghost use Rattle.irt_base.specs.Valid.{AreBytes};
 ghost use Rattle.irt_io.specs.Fault.{IsLater};
 ghost use Rattle.irt_io.specs.Files.{Files, IsLoad, IsLoadCause, IsStore, IsStoreCause, Stores};
 
@@ -43,9 +44,10 @@ impl MemShelf {
         self.shelf.hold(name, bytes)
     }
 
-    /// What a name holds, where it holds anything.
+    /// The bytes that a name holds, where it holds any.
     pub fn held(&self, name: &str) -> Option<&[u8]>
-        ensures { option_map (λ bytes. bytes.now) result ≡ held_by self.now name.now }
+        ensures held { option_map (λ bytes. bytes.now) result ≡ held_by self.now name.now }
+        ensures bytes { IfSome result (λ bytes. AreBytes bytes.now) }
     {
         self.shelf.held(name)
     }
@@ -61,6 +63,7 @@ impl Shelf for MemShelf {
     fn load(&mut self, alloc: Global, name: &str, limit: usize) -> Result<Vec<u8>, ShelfError>
         ensures kept { held_by self.new ≡ held_by self.old }
         ensures bound { IfOk result (λ v. length v.items ≤ limit) }
+        ensures bytes { IfOk result (λ v. AreBytes v.items) }
         ensures answer { IsLoad (Some (held_by self.old)) name.now limit result }
         ensures cause { IsLoadCause (script_of self.old).faults (script_of self.new).faults result }
         ensures later { IsLater (script_of self.old).faults (script_of self.new).faults }

@@ -1,6 +1,7 @@
 //! A shelf: files by name.
 
 ghost use Rattle.std.specs.Prelude.{◌≡◌, ◌≤◌, ℕ, length, Option, IfOk};
+ghost use Rattle.irt_base.specs.Valid.{AreBytes};
 ghost use Rattle.irt_io.specs.Fault.{IsLater};
 ghost use Rattle.irt_io.specs.Files.{Files, IsLoad, IsLoadCause, IsStore, IsStoreCause};
 
@@ -28,11 +29,12 @@ pub trait Shelf {
 
     /// The bytes of a file of at most `limit` bytes. No call of `load` changes a file.
     ///
-    /// `Absent`: the name is not held. `TooLong`: it holds more than `limit` bytes. `Failed`: a
-    /// fault, which was counted. Of several causes a fault comes first.
+    /// `Absent`: the name is not held. `TooLong`: it holds more than `limit` bytes. After either no
+    /// fault was counted. `Failed`: a fault, which was counted. Of several causes a fault comes first.
     fn load(&mut self, alloc: Global, name: &str, limit: usize) -> Result<Vec<u8>, ShelfError>
         ensures kept { files self.new ≡ files self.old }
         ensures bound { IfOk result (λ v. length v.items ≤ limit) }
+        ensures bytes { IfOk result (λ v. AreBytes v.items) }
         ensures answer { IsLoad (files self.old) name.now limit result }
         ensures cause { IsLoadCause (faults self.old) (faults self.new) result }
         ensures later { IsLater (faults self.old) (faults self.new) };

@@ -1,9 +1,11 @@
 //! A shelf in memory that never fails.
 
-ghost use Rattle.std.specs.Prelude.{◌≡◌, ◌≢◌, ◌≤◌, ℕ, List, length, Some, None, IfOk, OnErr, option_map};
+ghost use Rattle.std.specs.Prelude.{◌≡◌, ◌≢◌, ◌≤◌, ℕ, List, length, Some, None, IfOk, IfSome, OnErr, option_map};
+ghost use Rattle.irt_base.specs.Valid.{AreBytes};
 ghost use Rattle.irt_io.specs.Fault.{IsLater};
 ghost use Rattle.irt_io.specs.Files.{Files, IsLoad, IsLoadCause, IsStore, IsStoreCause, Stores};
 
+use crate::bytes::are_bytes;
 use crate::shelf::{Shelf, ShelfError};
 use irt_base::memory::NoMemory;
 use std::alloc::Global;
@@ -40,12 +42,17 @@ impl SureShelf {
         Ok(())
     }
 
-    /// What a name holds, where it holds anything.
+    /// The bytes that a name holds, where it holds any.
     pub fn held(&self, name: &str) -> Option<&[u8]>
-        ensures { option_map (λ bytes. bytes.now) result ≡ files_of self.now name.now }
+        ensures held { option_map (λ bytes. bytes.now) result ≡ files_of self.now name.now }
+        ensures bytes { IfSome result (λ bytes. AreBytes bytes.now) }
     {
         match self.files.get(name) {
-            Some(bytes) => Some(bytes.as_slice()),
+            Some(bytes) => {
+                let held = bytes.as_slice();
+                are_bytes(held);
+                Some(held)
+            }
             None => None,
         }
     }
@@ -61,6 +68,7 @@ impl Shelf for SureShelf {
     fn load(&mut self, alloc: Global, name: &str, limit: usize) -> Result<Vec<u8>, ShelfError>
         ensures kept { files_of self.new ≡ files_of self.old }
         ensures bound { IfOk result (λ v. length v.items ≤ limit) }
+        ensures bytes { IfOk result (λ v. AreBytes v.items) }
         ensures answer { IsLoad (Some (files_of self.old)) name.now limit result }
         ensures cause { IsLoadCause 0 0 result }
         ensures later { IsLater 0 0 }

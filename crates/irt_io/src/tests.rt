@@ -13,7 +13,8 @@ use std::test::Fail;
 fn folder(rt: HostRuntime) -> Result<(), Fail> {
     let alloc = rt.alloc();
     let name = "shelf_test.tmp";
-    let mut shelf = FolderShelf::new(rt);
+    let mut shelf = FolderShelf::new(rt, alloc);
+    shelf.store(name, b"what it held before")?;
     shelf.store(name, b"abc")?;
     assert_eq!(rt; shelf.load(alloc, name, 3)?.as_slice(), b"abc".as_slice());
     assert_eq!(rt; shelf.load(alloc, name, 2).err(), Some(ShelfError::TooLong));
@@ -21,14 +22,12 @@ fn folder(rt: HostRuntime) -> Result<(), Fail> {
     assert_eq!(rt; shelf.load(alloc, name, 3).err(), Some(ShelfError::Absent));
     assert_eq!(rt; shelf.load(alloc, ".", 3).err(), Some(ShelfError::Failed));
     assert_eq!(rt; shelf.store(".", b"abc").err(), Some(ShelfError::Failed));
-    Ok(())
-}
-
-#[test]
-fn standard_output(rt: HostRuntime) -> Result<(), Fail> {
-    let mut sink = StdSink::new(rt);
-    assert_eq!(rt; sink.put(b"")?, 0);
-    assert_eq!(rt; sink.put(b"a line\n")?, 7);
+    for beside in ["shelf_test.tmp.0.new", "..0.new"] {
+        assert_eq!(rt;
+            shelf.load(alloc, beside, 3).err(),
+            Some(ShelfError::Absent)
+        );
+    }
     Ok(())
 }
 
@@ -64,7 +63,7 @@ fn shelves_in_memory(rt: HostRuntime) -> Result<(), Fail> {
 }
 
 #[test]
-fn sinks_in_memory(rt: HostRuntime) -> Result<(), Fail> {
+fn sinks(rt: HostRuntime) -> Result<(), Fail> {
     let alloc = rt.alloc();
     let mut sink = MemSink::new(alloc, 2, &[1])?;
     assert_eq!(rt; sink.put(b"abc")?, 2);
@@ -74,5 +73,8 @@ fn sinks_in_memory(rt: HostRuntime) -> Result<(), Fail> {
     let mut sure = SureSink::new(alloc, 5);
     assert_eq!(rt; sure.put(b"abc")?, 3);
     assert_eq!(rt; sure.bytes(), b"abc".as_slice());
+    let mut out = StdSink::new(rt);
+    assert_eq!(rt; out.put(b"")?, 0);
+    assert_eq!(rt; out.put(b"a line\n")?, 7);
     Ok(())
 }

@@ -27,7 +27,7 @@ fn main(rt: HostRuntime) -> ExitCode {
         Err(error) if error.kind() == ErrorKind::OutOfMemory => return ExitCode::from(NO_MEMORY),
         Err(_) => return ExitCode::from(NO_WORDS),
     };
-    let mut shelf = FolderShelf::new(rt);
+    let mut shelf = FolderShelf::new(rt, alloc);
     let mut sink = StdSink::new(rt);
     let status = irt_calm(&rt, alloc, words.as_slice(), &mut shelf, &mut sink);
     ExitCode::from(status.0)

@@ -23,7 +23,7 @@ fn main(rt: HostRuntime) -> Result<ExitCode> {
         return Ok(ExitCode::from(1));
     };
     let rounds = rounds.as_str().parse::<u32>()?;
-    let mut shelf = FolderShelf::new(rt);
+    let mut shelf = FolderShelf::new(rt, alloc);
     let bytes = shelf.load(alloc, name.as_str(), PLANT_FILE)?;
     let plant = read_plant(alloc, bytes.as_slice())?;
     let done = routed(alloc, &plant, rounds)?;
