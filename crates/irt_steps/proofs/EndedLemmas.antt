@@ -6,47 +6,40 @@ use Rattle.irt_io.specs.Taken.{Appends}
 use Rattle.irt_steps.specs.declared.stop.Stop.{Stop}
 use Rattle.irt_steps.specs.declared.stop.Stop.TheVariants as stops
 use Rattle.irt_steps.specs.Steps.{Ending, ending, Steps, IsOneWay}
-use Rattle.irt_steps.specs.Follow.{status_of, Told, FollowsOn, Follows, HasCause}
+use Rattle.irt_steps.specs.Follow.{status_of, Follows, HasCause}
 use Rattle.irt_steps.proofs.OneWay.{comes_one}
 use Rattle.irt_steps.specs.Ended.{ended, Counts, Rose, IsOutcome, IsShelfFault, EndsAs, as_stated, shelf_failed, sink_failed, no_memory, no_text, PrintsAs, whole, failed, no_room, FinishesAs}
 
 -- a text of the outcome was printed with its status
-stated_prints : (steps : Steps (List ℕ)) (shelf sink : Counts) (old new : Files) (before after : Option (List ℕ)) (o : Ending) (status : ℕ) → IsOutcome steps old new o →
+stated_prints : (steps : Steps (List ℕ)) (shelf sink : Counts) (old new : Option Files) (before after : Option (List ℕ)) (o : Ending) (status : ℕ) → IsOutcome steps old new o →
     PrintsAs o.status o.text sink before after status → EndsAs steps shelf sink old new before after status
 stated_prints steps shelf sink old new before after o _ is (whole all) = as_stated o is all
 stated_prints steps shelf sink old new before after o _ is (failed rose front) = sink_failed rose o.text (inl (o, is, refl)) front
 stated_prints steps shelf sink old new before after o _ is (no_room front) = no_memory o.text (inl (o, is, refl)) front
 
 -- the line of a fault of the shelf was printed
-fault_prints : (steps : Steps (List ℕ)) (shelf sink : Counts) (old new : Files) (before after : Option (List ℕ)) (text : List ℕ) (status : ℕ) → IsShelfFault steps shelf old new text →
+fault_prints : (steps : Steps (List ℕ)) (shelf sink : Counts) (old new : Option Files) (before after : Option (List ℕ)) (text : List ℕ) (status : ℕ) → IsShelfFault steps shelf old new text →
     PrintsAs 2 text sink before after status → EndsAs steps shelf sink old new before after status
 fault_prints steps shelf sink old new before after text _ is (whole all) = shelf_failed text is all
 fault_prints steps shelf sink old new before after text _ is (failed risen front) = sink_failed risen text (inr is) front
 fault_prints steps shelf sink old new before after text _ is (no_room front) = no_memory text (inr is) front
 
-finishes_on : (steps : Steps (List ℕ)) (result : Result (Vec ℕ) Stop) (shelf sink : Counts) (old new : Files) (before after : Option (List ℕ)) (status : ℕ) →
-    FollowsOn (λ (v : Vec ℕ). v.items) steps result old new → HasCause shelf.before shelf.now result → FinishesAs result sink before after status →
-    EndsAs steps shelf sink old new before after status
-finishes_on steps (Ok text) shelf sink old new before after status follows cause prints =
-    stated_prints steps shelf sink old new before after (ending 0 text.items) status (record { answer = Ok text.items; comes = follows; is = refl }) prints
-finishes_on steps (Err (stops.Ends why line)) shelf sink old new before after status follows cause prints =
-    stated_prints steps shelf sink old new before after (ending (status_of why) line.items) status
-    (record { answer = Err (ending (status_of why) line.items); comes = follows; is = refl }) prints
-finishes_on steps (Err (stops.Fault line)) shelf sink old new before after status follows cause prints =
-    fault_prints steps shelf sink old new before after line.items status (record { name = follows.0; rose = cause; fails = follows.2; is = follows.1 }) prints
-finishes_on steps (Err stops.NoMemory) shelf sink old new before after status follows cause prints =
-    subst (λ s. EndsAs steps shelf sink old new before after s) (sym prints.0) (no_text follows prints.1)
-
+-- a call ends as its steps and its printing do
 pub finishes : (steps : Steps (List ℕ)) (result : Result (Vec ℕ) Stop) (shelf sink : Counts) (old new : Option Files) (before after : Option (List ℕ)) (status : ℕ) →
     Follows (λ (v : Vec ℕ). v.items) steps old new result → HasCause shelf.before shelf.now result → FinishesAs result sink before after status →
-    Told old new (λ o n. EndsAs steps shelf sink o n before after status)
-finishes steps result shelf sink None None before after status follows cause prints = tt
-finishes steps result shelf sink None (Some n) before after status follows cause prints = follows
-finishes steps result shelf sink (Some o) None before after status follows cause prints = follows
-finishes steps result shelf sink (Some o) (Some n) before after status follows cause prints = finishes_on steps result shelf sink o n before after status follows cause prints
+    EndsAs steps shelf sink old new before after status
+finishes steps (Ok text) shelf sink old new before after status follows cause prints =
+    stated_prints steps shelf sink old new before after (ending 0 text.items) status (record { answer = Ok text.items; comes = follows; is = refl }) prints
+finishes steps (Err (stops.Ends why line)) shelf sink old new before after status follows cause prints =
+    stated_prints steps shelf sink old new before after (ending (status_of why) line.items) status
+    (record { answer = Err (ending (status_of why) line.items); comes = follows; is = refl }) prints
+finishes steps (Err (stops.Fault line)) shelf sink old new before after status follows cause prints =
+    fault_prints steps shelf sink old new before after line.items status (record { name = follows.0; rose = cause; fails = follows.2; is = follows.1 }) prints
+finishes steps (Err stops.NoMemory) shelf sink old new before after status follows cause prints =
+    subst (λ s. EndsAs steps shelf sink old new before after s) (sym prints.0) (no_text follows prints.1)
 
 -- what was printed with another status than those of faults and of want of memory
-pub stated_of : (steps : Steps (List ℕ)) (shelf sink : Counts) (old new : Files) (before after : Option (List ℕ)) (status : ℕ) →
+pub stated_of : (steps : Steps (List ℕ)) (shelf sink : Counts) (old new : Option Files) (before after : Option (List ℕ)) (status : ℕ) →
     EndsAs steps shelf sink old new before after status → status ≢ 2 → status ≢ 12 → status ≢ 13 →
     (o : Ending) × IsOutcome steps old new o × (o.status ≡ status) × Appends before after o.text
 stated_of steps shelf sink old new before after _ (as_stated o is appends) not2 not12 not13 = (o, is, refl, appends)
@@ -56,7 +49,7 @@ stated_of steps shelf sink old new before after _ (no_memory text is front) not2
 stated_of steps shelf sink old new before after _ (no_text halts kept) not2 not12 not13 = absurd (not13 refl)
 
 -- where every outcome has status 0 and no fault was counted
-pub complete_of : (steps : Steps (List ℕ)) (shelf sink : Counts) (old new : Files) (before after : Option (List ℕ)) (status : ℕ) →
+pub complete_of : (steps : Steps (List ℕ)) (shelf sink : Counts) (old new : Option Files) (before after : Option (List ℕ)) (status : ℕ) →
     EndsAs steps shelf sink old new before after status → ((o : Ending) → IsOutcome steps old new o → o.status ≡ 0) → ¬ Rose shelf → ¬ Rose sink →
     (status ≡ 0) ⊎ (status ≡ 13)
 complete_of steps shelf sink old new before after _ (as_stated o is appends) zero calm quiet = inl (zero o is)
@@ -65,13 +58,23 @@ complete_of steps shelf sink old new before after _ (sink_failed rose text is fr
 complete_of steps shelf sink old new before after _ (no_memory text is front) zero calm quiet = inr refl
 complete_of steps shelf sink old new before after _ (no_text halts kept) zero calm quiet = inr refl
 
--- where the questions of the steps have one answer, the outcome is the only one
-pub exact_of : (steps : Steps (List ℕ)) (shelf sink : Counts) (old new : Files) (before after : Option (List ℕ)) (status : ℕ) →
-    EndsAs steps shelf sink old new before after status → IsOneWay steps → (o : Ending) (files : Files) → IsOutcome steps old files o →
+-- where the questions of the steps have one answer, the outcome over files that are told is the only one
+pub exact_of : (steps : Steps (List ℕ)) (shelf sink : Counts) (files : Files) (new : Option Files) (before after : Option (List ℕ)) (status : ℕ) →
+    EndsAs steps shelf sink (Some files) new before after status → IsOneWay steps → (o : Ending) (end : Option Files) → IsOutcome steps (Some files) end o →
     (status ≡ o.status) ⊎ (status ≡ 2) ⊎ (status ≡ 12) ⊎ (status ≡ 13)
-exact_of steps shelf sink old new before after _ (as_stated e so appends) one o files is =
-    inl (ap (λ (x : Ending). x.status) (so.is ∙ ap ended (comes_one steps old old new files so.answer is.answer one (λ name. refl) so.comes is.comes) ∙ sym is.is))
-exact_of steps shelf sink old new before after _ (shelf_failed text so appends) one o files is = inr (inl refl)
-exact_of steps shelf sink old new before after _ (sink_failed rose text so front) one o files is = inr (inr (inl refl))
-exact_of steps shelf sink old new before after _ (no_memory text so front) one o files is = inr (inr (inr refl))
-exact_of steps shelf sink old new before after _ (no_text halts kept) one o files is = inr (inr (inr refl))
+exact_of steps shelf sink files new before after _ (as_stated e so appends) one o end is =
+    inl (ap (λ (x : Ending). x.status) (so.is ∙ ap ended (comes_one steps files files new end so.answer is.answer one (λ name. refl) so.comes is.comes) ∙ sym is.is))
+exact_of steps shelf sink files new before after _ (shelf_failed text so appends) one o end is = inr (inl refl)
+exact_of steps shelf sink files new before after _ (sink_failed rose text so front) one o end is = inr (inr (inl refl))
+exact_of steps shelf sink files new before after _ (no_memory text so front) one o end is = inr (inr (inr refl))
+exact_of steps shelf sink files new before after _ (no_text halts kept) one o end is = inr (inr (inr refl))
+
+-- the status is one that an outcome has, or that of a fault or of want of memory
+pub listed_of : (steps : Steps (List ℕ)) (shelf sink : Counts) (old new : Option Files) (before after : Option (List ℕ)) (status : ℕ) (Listed : ℕ → Type 0) →
+    EndsAs steps shelf sink old new before after status → ((o : Ending) → IsOutcome steps old new o → Listed o.status) → Listed 2 → Listed 12 → Listed 13 →
+    Listed status
+listed_of steps shelf sink old new before after _ Listed (as_stated o is appends) each two twelve thirteen = each o is
+listed_of steps shelf sink old new before after _ Listed (shelf_failed text is appends) each two twelve thirteen = two
+listed_of steps shelf sink old new before after _ Listed (sink_failed rose text is front) each two twelve thirteen = twelve
+listed_of steps shelf sink old new before after _ Listed (no_memory text is front) each two twelve thirteen = thirteen
+listed_of steps shelf sink old new before after _ Listed (no_text halts kept) each two twelve thirteen = thirteen

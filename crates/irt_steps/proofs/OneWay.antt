@@ -1,10 +1,11 @@
 -- Steps whose questions have one answer lead to one ending.
-use Rattle.std.proofs.Common.{◌≡◌, ◌⊎◌, inl, inr, ℕ, ◌<◌, ◌≤◌, List, length, Some, None, Result, Ok, Err, refl, sym, ◌∙◌, ap, subst, arith, Bool, true, false}
+use Rattle.std.proofs.Common.{◌≡◌, ◌⊎◌, inl, inr, ℕ, List, Option, Some, None, Result, Ok, Err, refl, sym, ◌∙◌, ap, subst, Bool, true, false}
 use Rattle.std.proofs.lemmas.Slice.Eq.{bytes_eq-Decides}
 use Rattle.std.specs.Str.{bytes_eq}
 use Rattle.std.specs.Bool.{Decides}
 use Rattle.irt_io.specs.Files.{Files}
-use Rattle.irt_steps.specs.Steps.{Ending, Steps, gives, ends, loads, stores, asks, after, judged, IsHeld, IsMissing, IsTooLong, IsStored, Comes, IsOneWay}
+use Rattle.irt_steps.proofs.StepLemmas.{held_loads}
+use Rattle.irt_steps.specs.Steps.{Ending, Steps, gives, ends, loads, stores, asks, after, judged, IsHeld, IsUnloaded, missing, too_long, IsStored, Comes, IsOneWay}
 
 -- two shelves that hold the same
 abbrev AreAlike : Files → Files → Type 0
@@ -19,22 +20,17 @@ same_bytes f g name limit x y alike first second = some_same (sym first ∙ alik
 none_some : (x : List ℕ) → None ≡ Some x → ⊥
 none_some x is = absurd cc
 
-over_within : (limit : ℕ) (x y : List ℕ) → x ≡ y → limit < length x → length y ≤ limit → ⊥
-over_within limit x y is over within = omega (arith, ap length is)
-
--- what was held cannot be missing or too long
-held_stops : (f g : Files) (name : List ℕ) (limit : ℕ) (bytes : List ℕ) (e : Ending) → AreAlike f g → IsHeld f name limit bytes → IsMissing g name e ⊎ IsTooLong g name limit e → ⊥
-held_stops f g name limit bytes e alike held (inl missing) = none_some bytes (sym missing.0 ∙ sym (alike name) ∙ held.held)
-held_stops f g name limit bytes e alike held (inr long) =
-    over_within limit long.bytes bytes (sym (same_bytes f g name limit bytes long.bytes alike held.held long.held)) long.over held.within
+-- a file that is held at one of them is not unloaded at the other
+held_loads_alike : (f g : Files) (name : List ℕ) (limit : ℕ) (bytes : List ℕ) (e : Ending) → AreAlike f g → IsHeld (Some f) name limit bytes → IsUnloaded (Some g) name limit e → ⊥
+held_loads_alike f g name limit bytes e alike held why =
+    held_loads g name limit bytes e (record { held = sym (alike name) ∙ held.held; within = held.within; small = held.small }) why
 
 -- both are missing, or both are too long
-stops_alike : (f g : Files) (name : List ℕ) (limit : ℕ) (d e : Ending) → AreAlike f g → IsMissing f name d ⊎ IsTooLong f name limit d →
-    IsMissing g name e ⊎ IsTooLong g name limit e → d ≡ e
-stops_alike f g name limit d e alike (inl first) (inl second) = first.1 ∙ sym second.1
-stops_alike f g name limit d e alike (inr first) (inr second) = first.is ∙ sym second.is
-stops_alike f g name limit d e alike (inl first) (inr second) = absurd (none_some second.bytes (sym first.0 ∙ alike name ∙ second.held))
-stops_alike f g name limit d e alike (inr first) (inl second) = absurd (none_some first.bytes (sym second.0 ∙ sym (alike name) ∙ first.held))
+unloaded_alike : (f g : Files) (name : List ℕ) (limit : ℕ) (d e : Ending) → AreAlike f g → IsUnloaded (Some f) name limit d → IsUnloaded (Some g) name limit e → d ≡ e
+unloaded_alike f g name limit _ _ alike (missing first) (missing second) = refl
+unloaded_alike f g name limit _ _ alike (too_long first) (too_long second) = refl
+unloaded_alike f g name limit _ _ alike (missing first) (too_long second) = absurd (none_some second.bytes (sym first ∙ alike name ∙ second.held))
+unloaded_alike f g name limit _ _ alike (too_long first) (missing second) = absurd (none_some first.bytes (sym second ∙ sym (alike name) ∙ first.held))
 
 decided : {P : Type 0} (b : Bool) → Decides b P → P ⊎ ¬ P
 decided true decides = inl (decides.0 refl)
@@ -44,27 +40,30 @@ decided false decides = inr (λ holds. absurd (never (decides.1 holds)))
     never is = absurd cc
 
 -- a store leaves the same behind
-stored_alike : (f g m n : Files) (name bytes : List ℕ) → AreAlike f g → IsStored f m name bytes → IsStored g n name bytes → AreAlike m n
+stored_alike : (f g m n : Files) (name bytes : List ℕ) → AreAlike f g → IsStored (Some f) (Some m) name bytes → IsStored (Some g) (Some n) name bytes → AreAlike m n
 stored_alike f g m n name bytes alike first second other = elim (decided (bytes_eq other name) (bytes_eq-Decides other name)) [
   | inl is ↦ ap m is ∙ first.stored ∙ sym (ap n is ∙ second.stored)
   | inr differs ↦ first.others other differs ∙ alike other ∙ sym (second.others other differs)
 ]
 
-pub comes_one : {A : Type 0} (steps : Steps A) (f g m n : Files) (r s : Result A Ending) → IsOneWay steps → AreAlike f g → Comes steps f m r → Comes steps g n s → r ≡ s
+-- steps over files that are alike lead to one ending; no step changes whether the files are told
+pub comes_one : {A : Type 0} (steps : Steps A) (f g : Files) (m n : Option Files) (r s : Result A Ending) → IsOneWay steps → AreAlike f g → Comes steps (Some f) m r → Comes steps (Some g) n s → r ≡ s
 comes_one (gives x) f g m n r s one alike (is, kept) (so, also) = is ∙ sym so
 comes_one (ends e) f g m n r s one alike (is, kept) (so, also) = is ∙ sym so
 comes_one (loads name limit next) f g m n r s one alike (inl (x, held, first)) (inl (y, also, second)) =
     let same : y ≡ x = sym (same_bytes f g name limit x y alike held.held also.held) in
-    comes_one (next x) f g m n r s (one x) alike first (subst (λ b. Comes (next b) g n s) same second)
-comes_one (loads name limit next) f g m n r s one alike (inl (x, held, first)) (inr (e, why, so, also)) = absurd (held_stops f g name limit x e alike held why)
+    comes_one (next x) f g m n r s (one x) alike first (subst (λ b. Comes (next b) (Some g) n s) same second)
+comes_one (loads name limit next) f g m n r s one alike (inl (x, held, first)) (inr (e, why, so, also)) = absurd (held_loads_alike f g name limit x e alike held why)
 comes_one (loads name limit next) f g m n r s one alike (inr (e, why, is, kept)) (inl (y, held, second)) =
-    absurd (held_stops g f name limit y e (λ other. sym (alike other)) held why)
+    absurd (held_loads_alike g f name limit y e (λ other. sym (alike other)) held why)
 comes_one (loads name limit next) f g m n r s one alike (inr (d, why, is, kept)) (inr (e, reason, so, also)) =
-    is ∙ ap Err (stops_alike f g name limit d e alike why reason) ∙ sym so
-comes_one (stores name bytes next) f g m n r s one alike (between, stored, first) (middle, again, second) =
+    is ∙ ap Err (unloaded_alike f g name limit d e alike why reason) ∙ sym so
+comes_one (stores name bytes next) f g m n r s one alike (None, stored, first) second = absurd stored.others
+comes_one (stores name bytes next) f g m n r s one alike (Some between, stored, first) (None, again, second) = absurd again.others
+comes_one (stores name bytes next) f g m n r s one alike (Some between, stored, first) (Some middle, again, second) =
     comes_one next between middle m n r s one (stored_alike f g between middle name bytes alike stored again) first second
 comes_one (asks P next) f g m n r s one alike (b, holds, first) (c, also, second) =
-    comes_one (next b) f g m n r s (one.1 b) alike first (subst (λ x. Comes (next x) g n s) (one.0 c b also holds) second)
+    comes_one (next b) f g m n r s (one.1 b) alike first (subst (λ x. Comes (next x) (Some g) n s) (one.0 c b also holds) second)
 
 -- ---- which steps are one way
 

@@ -25,26 +25,27 @@ ended (Ok text) = ending 0 text
 ended (Err e) = e
 
 -- The status and the text of the steps on these files, and the files after them.
-pub record IsOutcome (steps : Steps (List ℕ)) (old new : Files) (o : Ending) : Type 0 where
+pub record IsOutcome (steps : Steps (List ℕ)) (old new : Option Files) (o : Ending) : Type 0 where
   pub answer : Result (List ℕ) Ending
   pub comes : Comes steps old new answer
   pub is : o ≡ ended answer
 
 -- a fault of the shelf at a name, with its line
-pub record IsShelfFault (steps : Steps (List ℕ)) (shelf : Counts) (old new : Files) (text : List ℕ) : Type 0 where
+pub record IsShelfFault (steps : Steps (List ℕ)) (shelf : Counts) (old new : Option Files) (text : List ℕ) : Type 0 where
   pub name : List ℕ
   pub rose : Rose shelf
   pub fails : FailsAt steps old new name
   pub is : text ≡ fault_line name
 
 -- a text that the steps print: the outcome's, or a fault's line
-abbrev pub IsTextOf : Steps (List ℕ) → Counts → Files → Files → List ℕ → Type 0
-IsTextOf steps shelf old new text = ((o : Ending) × IsOutcome steps old new o × (text ≡ o.text)) ⊎ IsShelfFault steps shelf old new text
+abbrev pub IsTextOf : Steps (List ℕ) → Counts → Option Files → Option Files → List ℕ → Type 0
+IsTextOf steps shelf old new text =
+    ((o : Ending) × IsOutcome steps old new o × (text ≡ o.text)) ⊎ IsShelfFault steps shelf old new text
 
 -- How a call ends, by its status. As the outcome says. By a fault of the shelf, with its line printed. By a fault of
 -- the sink, or for want of memory, each with a front of such a text printed. For want of memory before there is a
 -- text, with nothing printed.
-pub data EndsAs (steps : Steps (List ℕ)) (shelf sink : Counts) (old new : Files) (before after : Option (List ℕ)) : ℕ → Type 0 where
+pub data EndsAs (steps : Steps (List ℕ)) (shelf sink : Counts) (old new : Option Files) (before after : Option (List ℕ)) : ℕ → Type 0 where
   as_stated : (o : Ending) → IsOutcome steps old new o → Appends before after o.text → EndsAs steps shelf sink old new before after o.status
   shelf_failed : (text : List ℕ) → IsShelfFault steps shelf old new text → Appends before after text → EndsAs steps shelf sink old new before after 2
   sink_failed : Rose sink → (text : List ℕ) → IsTextOf steps shelf old new text → AppendsFront before after text → EndsAs steps shelf sink old new before after 12

@@ -1,6 +1,6 @@
 -- What a function that makes steps leaves behind.
 use Rattle.std.specs.Global.{Vec}
-use Rattle.std.specs.Prelude.{◌≡◌, ℕ, ⊤, List, Option, Some, None, Result, Ok, Err}
+use Rattle.std.specs.Prelude.{◌≡◌, ℕ, ⊤, List, Option, Result, Ok, Err}
 use Rattle.irt_io.specs.Fault.{HasRisen}
 use Rattle.irt_io.specs.Files.{Files}
 use Rattle.irt_io.specs.declared.shelf.ShelfError.{ShelfError}
@@ -21,26 +21,18 @@ status_of causes.Plant = 5
 status_of causes.Malformed = 7
 status_of causes.Reject = 8
 
--- A claim on the files before and after a call, where the shelf tells them. No call changes whether it does.
-abbrev pub Told : Option Files → Option Files → (Files → Files → Type 0) → Type 0
-Told None None claim = ⊤
-Told None (Some new) claim = ⊥
-Told (Some old) None claim = ⊥
-Told (Some old) (Some new) claim = claim old new
-
 -- A function ended, by what it returned seen by view, as the steps say.
-abbrev pub FollowsOn : {A B : Type 0} → (A → B) → Steps B → Result A Stop → Files → Files → Type 0
-FollowsOn view steps (Ok x) old new = Comes steps old new (Ok (view x))
-FollowsOn view steps (Err (stops.Ends cause line)) old new = Comes steps old new (Err (ending (status_of cause) line.items))
-FollowsOn view steps (Err (stops.Fault line)) old new = (name : List ℕ) × (line.items ≡ fault_line name) × FailsAt steps old new name
-FollowsOn view steps (Err stops.NoMemory) old new = Halts steps old new
-
 abbrev pub Follows : {A B : Type 0} → (A → B) → Steps B → Option Files → Option Files → Result A Stop → Type 0
-Follows view steps old new result = Told old new (FollowsOn view steps result)
+Follows view steps old new (Ok x) = Comes steps old new (Ok (view x))
+Follows view steps old new (Err (stops.Ends cause line)) =
+    Comes steps old new (Err (ending (status_of cause) line.items))
+Follows view steps old new (Err (stops.Fault line)) =
+    (name : List ℕ) × (line.items ≡ fault_line name) × FailsAt steps old new name
+Follows view steps old new (Err stops.NoMemory) = Halts steps old new
 
 -- the same of a function that touches no shelf
 abbrev pub Decides : {A B : Type 0} → (A → B) → Steps B → Result A Stop → Type 0
-Decides view steps result = (files : Files) → FollowsOn view steps result files files
+Decides view steps result = (files : Option Files) → Follows view steps files files result
 
 -- A function that touches no shelf returned, seen by view, this value or ending, unless memory ran out.
 abbrev pub Answers : {A B : Type 0} → (A → B) → Result B Ending → Result A Stop → Type 0

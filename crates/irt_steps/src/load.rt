@@ -1,6 +1,7 @@
 //! Loading and storing a file as a step of a command.
 
 ghost use Rattle.std.specs.Prelude.{◌≡◌, ◌≤◌, length, IfOk};
+ghost use Rattle.irt_base.specs.Valid.{AreBytes};
 ghost use Rattle.irt_io.specs.Fault.{IsLater};
 ghost use Rattle.irt_steps.specs.Follow.{Follows, HasCause};
 ghost use Rattle.irt_steps.specs.Steps.{loads, stores, gives};
@@ -19,6 +20,7 @@ pub fn load_file<S: Shelf>(
 ) -> Result<Vec<u8>, Stop>
     ensures kept { S.files shelf.new ≡ S.files shelf.old }
     ensures bound { IfOk result (λ v. length v.items ≤ limit) }
+    ensures bytes { IfOk result (λ v. AreBytes v.items) }
     ensures step { Follows (λ v. v.items) (loads name.now limit (λ bytes. gives bytes)) (S.files shelf.old) (S.files shelf.new) result }
     ensures cause { HasCause (S.faults shelf.old) (S.faults shelf.new) result }
     ensures later { IsLater (S.faults shelf.old) (S.faults shelf.new) }
