@@ -1,3 +1,4 @@
+<<<<<<< HEAD
 -- The commands, as steps.
 use Rattle.std.specs.Prelude.{ℕ, List, [], ◌∷◌, ◌++◌, codes, Option, Some, None, Result, Ok, Err, option_map, unwrap_or, slice_get}
 use Rattle.irt_base.specs.declared.limits.TheConstants.{PLANT_FILE, DEVICE_FILE}
@@ -15,9 +16,24 @@ use Rattle.plan_check.specs.Verdicts.{IsJudged}
 use Rattle.plan_rules.specs.declared.place.Reject.{Reject}
 use Rattle.irt_main.specs.Lines.{usage_line, not_toml_line, rule_line, malformed_line, accept_line, reject_line}
 use Rattle.irt_main.specs.Words.{file_word}
+=======
+-- All commands, by their words.
+use Rattle.std.specs.Prelude.{ℕ, ⊤, List, Option, Some, None}
+use Rattle.irt_steps.specs.Steps.{ending, Steps, ends}
+use Rattle.irt_words.specs.Asked.{asked_of}
+use Rattle.irt_words.specs.Commands.{Command, check, show}
+use Rattle.irt_main.specs.Check.{check_steps}
+use Rattle.irt_main.specs.Lines.{usage_line}
+use Rattle.irt_main.specs.Show.{show_steps}
+>>>>>>> 2e1dd41 (irt_words: what words ask for is read as stated)
 
--- ---- a plant's file
+-- A command that isn't built yet is none.
+abbrev pub asked_steps : Option Command → Steps (List ℕ)
+asked_steps (Some (check plant)) = check_steps plant
+asked_steps (Some (show file)) = show_steps file
+asked_steps asked = ends (ending 1 usage_line)
 
+<<<<<<< HEAD
 abbrev pub plant_refusal : PlantRefusal → Ending
 plant_refusal not_toml = ending 5 not_toml_line
 plant_refusal (breaks number index) = ending 5 (rule_line number index)
@@ -91,6 +107,20 @@ abbrev pub command_steps : Option (List ℕ) → Option (List ℕ) → Steps (Li
 command_steps (Some name) show = check_steps name
 command_steps None (Some name) = show_steps name
 command_steps None None = ends (ending 1 usage_line)
+=======
+abbrev pub IsBuilt : Command → Type 0
+IsBuilt (check plant) = ⊤
+IsBuilt (show file) = ⊤
+IsBuilt command = ⊥
+
+abbrev pub IsNothing : Option Command → Type 0
+IsNothing None = ⊤
+IsNothing (Some command) = ¬ IsBuilt command
+>>>>>>> 2e1dd41 (irt_words: what words ask for is read as stated)
 
 abbrev pub steps_of : List (List ℕ) → Steps (List ℕ)
-steps_of words = command_steps (check_word words) (show_word words)
+steps_of words = asked_steps (asked_of words)
+
+-- the words are no command
+abbrev pub IsUsage : List (List ℕ) → Type 0
+IsUsage words = IsNothing (asked_of words)

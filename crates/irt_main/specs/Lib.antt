@@ -1,4 +1,8 @@
-pub mod Causes
+pub mod Call
+pub mod Cause
+pub mod Check
 pub mod Commands
+pub mod DeviceFiles
 pub mod Lines
-pub mod Words
+pub mod PlantFile
+pub mod Show

@@ -4,6 +4,7 @@ use Rattle.irt_base.specs.Text.{frame_text}
 use Rattle.irt_block.specs.declared.fault.BlockKind.{BlockKind}
 use Rattle.irt_block.specs.declared.fault.BlockKind.TheVariants as kinds
 use Rattle.irt_block.specs.declared.fault.BlockFault.{BlockFault}
+use Rattle.irt_topo.specs.Reading.{PlantRefusal, not_toml, breaks}
 
 abbrev pub usage_line : List ℕ
 usage_line = codes "usage\n"
@@ -14,6 +15,11 @@ not_toml_line = codes "plant not toml\n"
 -- the first rule that fails, and its least index: `plant P13 0`
 abbrev pub rule_line : ℕ → ℕ → List ℕ
 rule_line number index = codes "plant P" ++ decimal number ++ 32 ∷ [] ++ decimal index ++ 10 ∷ []
+
+-- why bytes are no plant's file
+abbrev pub refusal_line : PlantRefusal → List ℕ
+refusal_line not_toml = not_toml_line
+refusal_line (breaks number index) = rule_line number index
 
 abbrev pub kind_text : BlockKind → List ℕ
 kind_text kinds.NoMemory = codes "NoMemory"

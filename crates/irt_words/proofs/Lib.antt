@@ -1,3 +1,4 @@
 mod GrammarLemmas
 mod NumberLemmas
 mod ReadingLemmas
+mod StatedLemmas

@@ -1,5 +1,7 @@
 -- From what `clap` answers to what the words ask for.
-use Rattle.std.specs.Prelude.{if◌then◌else◌}
+use Rattle.std.specs.Prelude.{if◌then◌else◌, IfOk, option_map, Result, Ok, Err}
+use Rattle.irt_base.specs.declared.memory.NoMemory.{NoMemory}
+use Rattle.irt_words.specs.declared.asked.Asked.{Asked}
 use Rattle.std.proofs.Common.{◌≡◌, ◌≢◌, inl, inr, true, false, List, [], ◌∷◌, Option, None, refl, sym, ◌∙◌, ap, subst}
 use Rattle.clap.specs.Words.{App, HasKind, HasMatchesOf, IsAmong, Kinds, Row, Text, fault_of, is_simple, is_simple_and_free, kind_of, subcommand_of, subcommand_rows_of}
 use Rattle.clap.specs.declared.error.Error.{Error}
@@ -8,7 +10,7 @@ use Rattle.clap.specs.declared.error.kind.ErrorKind.TheVariants as kinds
 use Rattle.clap.specs.declared.parser.matches.ArgMatches.{ArgMatches}
 use Rattle.clap.proofs.OnLiterals.{clap_on_literals}
 use Rattle.irt_words.specs.Asked.{asked_of, found_command, is_free_of}
-use Rattle.irt_words.specs.Commands.{Command}
+use Rattle.irt_words.specs.Commands.{Command, command_of}
 use Rattle.irt_words.specs.Grammar.{irt_app}
 
 irt_is_simple : is_simple irt_app ≡ true
@@ -40,7 +42,7 @@ among_some k [] among = absurd among
 among_some k (x ∷ more) among = refl
 
 -- words in which there is one
-pub read_fault : (app : App) (words : List Text) (e : Error) → app ≡ irt_app → (is_simple_and_free app ≡ true → HasKind (fault_of app words) e) → kind_of e ≢ kinds.OutOfMemory →
+read_fault : (app : App) (words : List Text) (e : Error) → app ≡ irt_app → (is_simple_and_free app ≡ true → HasKind (fault_of app words) e) → kind_of e ≢ kinds.OutOfMemory →
     None ≡ asked_of words
 unfolding asked_of
 read_fault app words e is kind memory = elim (kind (ap is_simple_and_free is ∙ irt_is_free)) [
@@ -49,3 +51,8 @@ read_fault app words e is kind memory = elim (kind (ap is_simple_and_free is ∙
       let some : is_free_of (fault_of irt_app words) ≡ false = among_some (kind_of e) (fault_of irt_app words) (subst (λ a. IsAmong (kind_of e) (fault_of a words)) is among) in
       sym (ap (λ b. if b then found_command (subcommand_of irt_app words) else None) some)
 ]
+
+pub read_refused : (app : App) (words : List Text) (e : Error) (r : Result (Option Asked) NoMemory) → app ≡ irt_app → (is_simple_and_free app ≡ true → HasKind (fault_of app words) e) →
+    IfOk r (λ asked. (asked ≡ None) × (kind_of e ≢ kinds.OutOfMemory)) → IfOk r (λ asked. option_map command_of asked ≡ asked_of words)
+read_refused app words e (Ok asked) is kind (none, memory) = ap (option_map command_of) none ∙ read_fault app words e is kind memory
+read_refused app words e (Err out) is kind free = tt

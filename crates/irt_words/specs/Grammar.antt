@@ -43,13 +43,11 @@ short_subcommands =
     ∷ subcommand (codes "show") (required_all (codes "file" ∷ []))
     ∷ []
 
-abbrev pub long_subcommands : List Shape
-long_subcommands =
-    subcommand (codes "sync") seeded_rules
-    ∷ subcommand (codes "run") run_rules
-    ∷ subcommand (codes "gen") gen_rules
-    ∷ subcommand (codes "free") seeded_rules
-    ∷ []
+abbrev pub run_subcommands : List Shape
+run_subcommands = subcommand (codes "sync") seeded_rules ∷ subcommand (codes "run") run_rules ∷ []
+
+abbrev pub other_subcommands : List Shape
+other_subcommands = subcommand (codes "gen") gen_rules ∷ subcommand (codes "free") seeded_rules ∷ []
 
 -- The words begin with a subcommand's name, which must be there. There is no help and no version.
 abbrev pub irt_shape : Shape
@@ -64,11 +62,17 @@ irt_shape = record (new_shape (codes "irt")) {
 abbrev pub bare_app : App
 bare_app = record { top = irt_shape; subs = [] }
 
+abbrev pub app_with : List Shape → App
+app_with subs = record { top = record irt_shape { is_leaf = false }; subs = subs }
+
 abbrev pub short_app : App
-short_app = record { top = record irt_shape { is_leaf = false }; subs = short_subcommands }
+short_app = app_with short_subcommands
+
+abbrev pub run_app : App
+run_app = app_with (short_subcommands ++ run_subcommands)
 
 abbrev pub irt_app : App
-irt_app = record { top = record irt_shape { is_leaf = false }; subs = short_subcommands ++ long_subcommands }
+irt_app = app_with (short_subcommands ++ run_subcommands ++ other_subcommands)
 
 -- a command without subcommands has this shape
 pub record IsLeaf (command : Command) (shape : Shape) : Type 0 where

@@ -2,7 +2,7 @@
 
 ghost use Rattle.std.specs.Prelude.{◌≡◌, IfOk, codes, map, false};
 ghost use Rattle.clap.specs.Words.{app_of, rule_of};
-ghost use Rattle.irt_words.specs.Grammar.{IsLeaf, bare_app, short_app, irt_app, required, required_all, run_rules, gen_rules, subcommand};
+ghost use Rattle.irt_words.specs.Grammar.{IsLeaf, bare_app, short_app, run_app, irt_app, required, required_all, run_rules, gen_rules, seeded_rules, subcommand};
 
 use clap::{Arg, Command};
 use std::alloc::{AllocError, Global};
@@ -11,12 +11,18 @@ use std::alloc::{AllocError, Global};
 pub fn irt_command<'a>(alloc: Global) -> Result<Command<'a>, AllocError>
     ensures { IfOk result (λ r. app_of r ≡ irt_app) }
 {
-    let seeded = ["plant", "cycles", "seed"];
-    let command = short_commands(alloc)?;
-    let command = command.subcommand(subcommand(alloc, "sync", &seeded)?)?;
-    let command = command.subcommand(run_subcommand(alloc)?)?;
+    let command = run_commands(alloc)?;
     let command = command.subcommand(gen_subcommand(alloc)?)?;
-    command.subcommand(subcommand(alloc, "free", &seeded)?)
+    command.subcommand(seeded_subcommand(alloc, "free")?)
+}
+
+/// The command `irt` with the subcommands of one file, `sync` and `run`.
+fn run_commands<'a>(alloc: Global) -> Result<Command<'a>, AllocError>
+    ensures { IfOk result (λ r. app_of r ≡ run_app) }
+{
+    let command = short_commands(alloc)?;
+    let command = command.subcommand(seeded_subcommand(alloc, "sync")?)?;
+    command.subcommand(run_subcommand(alloc)?)
 }
 
 /// The command `irt` with the subcommands of one file.
@@ -39,6 +45,13 @@ fn bare_command<'a>(alloc: Global) -> Command<'a>
         .disable_help_subcommand(true)
         .disable_version_flag(true)
         .subcommand_required(true)
+}
+
+/// A subcommand with a plant, a number of cycles and a seed.
+fn seeded_subcommand<'a>(alloc: Global, name: &'a str) -> Result<Command<'a>, AllocError>
+    ensures { IfOk result (λ r. IsLeaf r (subcommand name.entry.now seeded_rules)) }
+{
+    subcommand(alloc, name, &["plant", "cycles", "seed"])
 }
 
 /// The subcommand `gen`.

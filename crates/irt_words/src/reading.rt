@@ -1,14 +1,14 @@
 //! From words to what they ask for.
 
-ghost use Rattle.std.specs.Prelude.{◌≡◌, ◌≤◌, IfOk, IfSome, codes, option_map};
-ghost use Rattle.clap.specs.Words.{first_of, found_of, rows_of, subcommand_rows_of};
+ghost use Rattle.std.specs.Prelude.{◌≡◌, ◌≢◌, ◌≤◌, None, IfOk, IfSome, codes, option_map};
+ghost use Rattle.clap.specs.Words.{first_of, found_of, kind_of, rows_of, subcommand_rows_of};
 ghost use Rattle.irt_words.specs.Asked.{texts_of, file_in, number_in, cycles_in, seed_in, plan_in, check_in, show_in, sync_in, run_in, run_seed_in, run_world_in, gen_in, free_in, command_in, found_command, asked_of, as_file, as_number, as_within};
 ghost use Rattle.irt_words.specs.Commands.{command_of};
 
 use crate::asked::{Asked, MAX_SEED, MIN_GENERATED};
 use crate::grammar::irt_command;
-use clap::ArgMatches;
 use clap::error::ErrorKind;
+use clap::{ArgMatches, Error};
 use irt_base::limits::{MAX_CYCLES, MAX_DEMANDS, MAX_DEVICES};
 use irt_base::memory::NoMemory;
 use irt_base::texts::read_decimal;
@@ -20,8 +20,18 @@ pub fn read_words<'a>(alloc: Global, words: &'a [String]) -> Result<Option<Asked
 {
     match irt_command(alloc)?.try_get_matches_from(words) {
         Ok(matches) => Ok(asked_by(&matches)),
-        Err(error) if error.kind() == ErrorKind::OutOfMemory => Err(NoMemory),
-        Err(_) => Ok(None),
+        Err(error) => refused(&error),
+    }
+}
+
+/// Words in which `clap` finds a fault ask for nothing.
+fn refused<'a>(error: &Error) -> Result<Option<Asked<'a>>, NoMemory>
+    ensures { IfOk result (λ asked. (asked ≡ None) × (kind_of error.now ≢ ErrorKind.OutOfMemory)) }
+{
+    if error.kind() == ErrorKind::OutOfMemory {
+        Err(NoMemory)
+    } else {
+        Ok(None)
     }
 }
 

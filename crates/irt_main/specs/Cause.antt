@@ -1,0 +1,38 @@
+-- Why a command ends as it does.
+use Rattle.std.specs.Prelude.{◌≡◌, ℕ, List, Option, Some, None}
+use Rattle.irt_base.specs.declared.blocks.Bundle.{Bundle}
+use Rattle.irt_base.specs.declared.limits.TheConstants.{DEVICE_FILE}
+use Rattle.irt_base.specs.declared.plants.Plant.{Plant}
+use Rattle.irt_block.specs.declared.fault.BlockFault.{BlockFault}
+use Rattle.irt_io.specs.Files.{Files}
+use Rattle.irt_show.specs.Show.{bundle_text}
+use Rattle.irt_steps.specs.Lines.{absent_line, long_line}
+use Rattle.irt_steps.specs.Steps.{Ending, ending, Holds, IsOver, LoadsNext}
+use Rattle.irt_topo.specs.Reading.{PlantRefusal}
+use Rattle.irt_words.specs.Asked.{asked_of}
+use Rattle.irt_words.specs.Commands.{check, show}
+use Rattle.plan_rules.specs.declared.place.Reject.{Reject}
+use Rattle.irt_main.specs.Check.{rejected, IsAcceptedPlan, IsRejectedPlan}
+use Rattle.irt_main.specs.Commands.{IsUsage, steps_of}
+use Rattle.irt_main.specs.DeviceFiles.{IsBundleFile, IsMalformed}
+use Rattle.irt_main.specs.Lines.{usage_line, refusal_line, malformed_line, accept_line}
+use Rattle.irt_main.specs.PlantFile.{IsRefusedFile}
+
+-- The causes of the words' ending over these files. A file that the command comes to is the first whose step fails:
+-- all its steps before that have succeeded.
+pub data IsCauseOf (files : Option Files) (words : List (List ℕ)) : Ending → Type 0 where
+  usage : IsUsage words → IsCauseOf files words (ending 1 usage_line)
+  absent : (name : List ℕ) (limit : ℕ) → LoadsNext (steps_of words) files name limit files →
+      Holds files name None → IsCauseOf files words (ending 3 (absent_line name))
+  too_long : (name : List ℕ) (limit : ℕ) → LoadsNext (steps_of words) files name limit files →
+      IsOver files name limit → IsCauseOf files words (ending 4 (long_line name))
+  no_plant : (name : List ℕ) (refusal : PlantRefusal) → asked_of words ≡ Some (check name) →
+      IsRefusedFile files name refusal → IsCauseOf files words (ending 5 (refusal_line refusal))
+  malformed : (name : List ℕ) (fault : BlockFault) → LoadsNext (steps_of words) files name DEVICE_FILE files →
+      IsMalformed files name fault → IsCauseOf files words (ending 7 (malformed_line name fault))
+  rejects : (name : List ℕ) (plant : Plant) (reject : Reject) → asked_of words ≡ Some (check name) →
+      IsRejectedPlan files name plant reject → IsCauseOf files words (rejected plant reject)
+  accepts : (name : List ℕ) → asked_of words ≡ Some (check name) →
+      IsAcceptedPlan files name → IsCauseOf files words (ending 0 accept_line)
+  shows : (name : List ℕ) (bundle : Bundle) → asked_of words ≡ Some (show name) →
+      IsBundleFile files name bundle → IsCauseOf files words (ending 0 (bundle_text bundle))
