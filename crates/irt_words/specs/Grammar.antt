@@ -1,5 +1,5 @@
 -- The command `irt` as `clap` has it: one level of subcommands, whose arguments are positionals but for `--world`.
-use Rattle.std.specs.Prelude.{◌≡◌,  List, [], ◌∷◌, ◌++◌, map, codes, Some, true, false}
+use Rattle.std.specs.Prelude.{◌≡◌, List, [], ◌∷◌, ◌++◌, map, codes, Some, true, false}
 use Rattle.clap.specs.Words.{App, Rule, Shape, Text, new_rule, app_of}
 use Rattle.clap.specs.declared.builder.command.Command.{Command}
 use Rattle.clap.specs.declared.builder.command.Command.TheViews.{out-Command}

@@ -11,11 +11,17 @@ pub const MAX_SEED: u64 = 18446744073709551615;
 #[derive(Clone, Copy, Debug)]
 pub enum Asked<'a> {
     /// `plan PLANT`
-    Plan { plant: &'a str },
+    Plan {
+        plant: &'a str,
+    },
     /// `check PLANT`
-    Check { plant: &'a str },
+    Check {
+        plant: &'a str,
+    },
     /// `show FILE`
-    Show { file: &'a str },
+    Show {
+        file: &'a str,
+    },
     /// `sync PLANT CYCLES SEED`
     Sync {
         plant: &'a str,
