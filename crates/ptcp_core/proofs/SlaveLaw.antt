@@ -1,5 +1,5 @@
 -- How near a slave's offset is to the true one.
-use Rattle.std.proofs.Common.{◌≡◌, ℕ, zero, suc, ◌+◌, ◌-◌, ◌*◌, ◌≤◌, Bool, true, false, ℤ, pos, List, [], ◌∷◌, Option, Some, None, refl, sym, ◌∙◌, ap, subst, arith}
+use Rattle.std.proofs.Common.{◌≡◌, ℕ, zero, suc, ◌+◌, ◌-◌, ◌*◌, ◌≤◌, Bool, true, false, ℤ, pos, List, [], ◌∷◌, ◌++◌, Option, Some, None, refl, sym, ◌∙◌, ap, subst, arith}
 use Rattle.std.proofs.lemmas.Int.{ints}
 use Rattle.std.proofs.lemmas.Bool.Decides.{nat_tests}
 use Rattle.std.proofs.Math.Nat.{mul-le-mul_left, mul_assoc}
@@ -154,3 +154,8 @@ pub slave_near : (clock : SlaveClock) (send timeout : ℕ) (events : List SyncEv
     state_of (after_all (fresh_slave send timeout) events) ≡ Synced offset →
     AreNear (budget_time clock.hops clock.stamp clock.drift send timeout) offset (clock.ahead (after_all (fresh_slave send timeout) events).ticked)
 slave_near clock send timeout events offset honest e = along clock events None (fresh_slave send timeout) offset honest refl e
+
+-- one event more
+pub one_more : (slave : SlaveState) (events : List SyncEvent) (event : SyncEvent) → after_all slave (events ++ event ∷ []) ≡ after_event (after_all slave events) event
+one_more slave [] event = refl
+one_more slave (first ∷ more) event = one_more (after_event slave first) more event
