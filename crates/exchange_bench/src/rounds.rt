@@ -4,7 +4,7 @@ ghost use Rattle.std.specs.Prelude.{◌≡◌, ◌≤◌, length, []};
 ghost use Rattle.irt_base.specs.declared.limits.TheConstants.{MAX_WORDS};
 ghost use Rattle.io_buffers.specs.Passes.{width_of, producer_steps, IsProducerOf, IsConsumerOf};
 
-use io_buffers::opening::exchange;
+use io_buffers::opening::{Opening, exchange};
 use io_buffers::shared::{Closed, ConsumerPass, Exchange, ProducerPass};
 use irt_base::memory::NoMemory;
 use std::alloc::Global;
@@ -14,7 +14,11 @@ use std::thread::{Threads, join};
 pub fn on_one_thread(alloc: Global, words: u16, rounds: u32) -> Result<Closed, NoMemory>
     requires { words ≤ MAX_WORDS }
 {
-    let (shared, mut producer, mut consumer) = exchange(alloc, words)?;
+    let Opening {
+        exchange: shared,
+        mut producer,
+        mut consumer,
+    } = exchange(alloc, words)?;
     let row = vec![in alloc; 1u64; usize::from(words)]?;
     let mut out = vec![in alloc; 0u64; usize::from(words)]?;
     let row = row.as_slice();
@@ -35,7 +39,11 @@ pub fn on_two_threads<R: Threads + Sync>(
 ) -> Result<Closed, NoMemory>
     requires { words ≤ MAX_WORDS }
 {
-    let (shared, producer, consumer) = exchange(alloc, words)?;
+    let Opening {
+        exchange: shared,
+        producer,
+        consumer,
+    } = exchange(alloc, words)?;
     let row = vec![in alloc; 1u64; usize::from(words)]?;
     let out = vec![in alloc; 0u64; usize::from(words)]?;
     let (producer, consumer) = join(

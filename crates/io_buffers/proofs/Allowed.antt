@@ -12,7 +12,7 @@ use Rattle.io_buffers.specs.declared.views.View.{View}
 use Rattle.io_buffers.specs.declared.views.View.TheVariants as view
 use Rattle.io_buffers.specs.Steps.{fresh_word, spent_word, draft_of, part_of, published_in, front_of, ready_in, loaded_in, takes_in, publications, IsOfPublication, NeverFell}
 use Rattle.io_buffers.specs.Rule.{IsExchange, Held, stores, publishes, probes, takes_row, loads, ends}
-use Rattle.io_buffers.proofs.Kept.{keep_store, keep_publish, keep_probe, keep_take, keep_load, keep_end}
+use Rattle.io_buffers.proofs.Kept.{keep_store, keep_publish, keep_probe, keep_take, keep_load, keep_end, fresh_above}
 use Rattle.io_buffers.proofs.Seats.{sees_producer, sees_consumer, sees_whole, sees_joined, two_at}
 
 at_start : (m n id : ℕ) (p : List Made) (i x : ℕ) → length (part_of p) < m → i ≡ suc (m * draft_of p + length (part_of p))
@@ -107,7 +107,7 @@ at_end m n id c full s h deep there bound =
         views = inr (inl (see.views v));
         exchange = keep_end m w see.cells see.producer c full see.exchange;
       },
-      refl,
+      (refl, fresh_above m w see.cells see.producer c see.exchange),
     )
 
 pub allows_end : (m n id : ℕ) (me : table.Me ℕ View) (c : List Made) → me ≡ (view.Consumer c, []) → length (loaded_in c) ≡ m → Allows (Held m) n id me 0 (λ r. r) (ends (step n 0 0 0 none) me)
@@ -130,7 +130,7 @@ at_take m n id c x ready is s h deep there bound =
         views = inr (inl (see.views v));
         exchange = keep_take m w see.cells see.producer c ready see.exchange;
       },
-      (refl, see.exchange.sound.middle),
+      (refl, see.exchange.sound.middle, fresh_above m w see.cells see.producer c see.exchange (see.exchange.sound.ready ready)),
     )
 
 pub allows_take : (m n id : ℕ) (me : table.Me ℕ View) (c : List Made) (x : ℕ) → me ≡ (view.Consumer c, []) → ready_in c ≡ true → x ≡ spent_word (front_of c) → Allows (Held m) n id me 0 (λ _. x) (takes_row (step n 0 x 0 none) me)
@@ -226,6 +226,7 @@ starts m =
       exchange = record {
         sound = sound_start m;
         number = λ e. never e;
+        spent = λ e. refl;
         part = refl;
         room = omega arith;
         loaded = refl;

@@ -21,6 +21,9 @@ number-fresh a n h = omega arith
 pub middle-spent : (a : ℕ) → a < 3 → middle_in (spent_word a) ≡ a
 middle-spent a h = omega arith
 
+pub number-spent : (a : ℕ) → a < 3 → number_in (spent_word a) ≡ 0
+number-spent a h = omega arith
+
 none : (a : ℕ) → a < 3 → a / 4 % 2 ≡ 0
 none a h = omega arith
 

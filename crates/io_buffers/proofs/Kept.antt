@@ -14,7 +14,7 @@ use Rattle.io_buffers.specs.declared.views.Made.{Made}
 use Rattle.io_buffers.specs.declared.views.Made.TheVariants as made
 use Rattle.io_buffers.specs.Steps.{middle_in, fresh_in, number_in, fresh_word, spent_word, draft_of, part_of, published_in, front_of, held_in, ready_in, shown_in, loaded_in, takes_in, publications, IsOfPublication}
 use Rattle.io_buffers.specs.Rule.{state_of, IsExchange}
-use Rattle.io_buffers.proofs.ControlWord.{middle-fresh, fresh-fresh, number-fresh, middle-spent, fresh-spent, all_map, fell_more}
+use Rattle.io_buffers.proofs.ControlWord.{middle-fresh, fresh-fresh, number-fresh, middle-spent, fresh-spent, number-spent, all_map, fell_more}
 
 -- a store of a draft word is a Store
 pub store-event : (m w : ℕ) (cells : List ℕ) (p c : List Made) (j x : ℕ) → j < m
@@ -88,6 +88,10 @@ load-event m w cells p c j x = refl
 pub held-below : (m w : ℕ) (cells : List ℕ) (p c : List Made) → IsExchange m w cells p c → held_in c < length (publications m p)
 held-below m w cells p c h = let n = h.sound.held in omega arith
 
+-- a fresh control word has a greater number than the one held
+pub fresh_above : (m w : ℕ) (cells : List ℕ) (p c : List Made) → IsExchange m w cells p c → fresh_in w ≡ true → held_in c < number_in w
+fresh_above m w cells p c h e = let n = h.number e in let b = h.sound.fresh.0 e in omega arith
+
 pub keep_store : (m w : ℕ) (cells : List ℕ) (p c : List Made) (j x : ℕ) → j ≡ length (part_of p) → j < m → IsExchange m w cells p c
     → IsExchange m w (set cells (m * draft_of p + j) x) (made.Stored j x ∷ p) c
 keep_store m w cells p c j x at fits h =
@@ -98,6 +102,7 @@ keep_store m w cells p c j x at fits h =
     record {
       sound = subst IsSound (store-event m w cells p c j x fits) (sound_next (state_of m w cells p c) (event.Store j x) h.sound);
       number = h.number;
+      spent = h.spent;
       part =
           ap (λ (k : ℕ). take k (take m (drop (m * draft_of p) (set cells (m * draft_of p + j) x)))) size
           ∙ (ap (λ (l : List ℕ). take (suc j) l) (row_same cells m (draft_of p) j x fits)
@@ -136,6 +141,7 @@ keep_publish m w cells p c full h =
     record {
       sound = subst IsSound (publish-event m w cells p c h.sound.draft (whole_part m w cells p c full h)) (sound_next (state_of m w cells p c) event.Publish h.sound);
       number = λ e. number-fresh (draft_of p) (n + 1) h.sound.draft ∙ sym (length-append (published_in p) (q ∷ []));
+      spent = λ e. never (sym e ∙ fresh-fresh (draft_of p) (n + 1) h.sound.draft);
       part = refl;
       room = omega arith;
       loaded = ap (λ (l : List ℕ). take (length (loaded_in c)) l) (get_or-append ps (q ∷ []) [] (held_in c) below) ∙ h.loaded;
@@ -149,6 +155,7 @@ keep_probe m w cells p c h =
     record {
       sound = sound_next (state_of m w cells p c) event.Probe h.sound;
       number = h.number;
+      spent = h.spent;
       part = h.part;
       room = h.room;
       loaded = refl;
@@ -164,6 +171,7 @@ keep_take m w cells p c ready h =
     record {
       sound = subst IsSound (take-event m w cells p c h.sound.front ready number) (sound_next (state_of m w cells p c) event.Take h.sound);
       number = λ e. never (sym (fresh-spent (front_of c) h.sound.front) ∙ e);
+      spent = λ e. number-spent (front_of c) h.sound.front;
       part = h.part;
       room = h.room;
       loaded = refl;
@@ -187,6 +195,7 @@ keep_load m w cells p c j at fits h =
     record {
       sound = h.sound;
       number = h.number;
+      spent = h.spent;
       part = h.part;
       room = h.room;
       loaded =
@@ -219,6 +228,7 @@ keep_end m w cells p c full h =
     record {
       sound = sound_next (state_of m w cells p c) event.Probe h.sound;
       number = h.number;
+      spent = h.spent;
       part = h.part;
       room = h.room;
       loaded = refl;

@@ -1,11 +1,11 @@
 -- What a pass knows after a publication, and after a take.
-use Rattle.std.proofs.Common.{◌≡◌, ℕ, ◌+◌, ◌-◌, ◌^◌, ◌≤◌, min, Bool, not, List, [], ◌∷◌, ◌++◌, length, sym, ap, ◌∙◌, arith}
+use Rattle.std.proofs.Common.{◌≡◌, ℕ, ◌+◌, ◌-◌, ◌^◌, ◌<◌, ◌≤◌, min, Bool, not, List, [], ◌∷◌, ◌++◌, length, sym, ap, ◌∙◌, arith}
 use Rattle.std.proofs.lemmas.List.{length-append}
 use Rattle.io_buffers.specs.Given.{Given, given}
 use Rattle.io_buffers.specs.declared.views.Made.{Made}
 use Rattle.io_buffers.specs.declared.views.Made.TheVariants as made
 use Rattle.io_buffers.specs.declared.views.View.TheVariants as view
-use Rattle.io_buffers.specs.Steps.{steps_in, fresh_in, fresh_word, draft_of, part_of, published_in, held_in, shown_in, loaded_in, takes_in, with_stores, with_loads, with_look}
+use Rattle.io_buffers.specs.Steps.{steps_in, fresh_in, number_in, fresh_word, draft_of, part_of, published_in, held_in, shown_in, loaded_in, takes_in, with_stores, with_loads, with_look}
 use Rattle.io_buffers.specs.Rule.{Sat, adds}
 use Rattle.io_buffers.proofs.StepLists.{part-stores, published-stores, draft-stores, loaded-loads, held-loads, shown-loads, takes-loads, loaded-look, takes-look, shown-look, length-stores, length-loads, length-look}
 
@@ -69,6 +69,14 @@ taken_more es looked new out first old last held fresh window is ended holds sho
     let words = loaded-loads 0 out looked ∙ ap (λ (l : List ℕ). l ++ out) (ap (λ (l : List Made). loaded_in l) is ∙ loaded-look first old es) in
     ap (λ (l : List Made). takes_in l) ended
     ∙ (λ i. before i ++ given (record { number = number i; fresh = shown i; in_window = sym late i }) (words i) ∷ [])
+
+-- what the last look found is compared with the number held
+pub newer_than : (me : Sat) (out : List ℕ) (looked : List Made) (held last : ℕ) → me ≡ (view.Consumer (with_loads 0 out looked), []) → held ≡ held_in looked
+    → held_in (steps_in me.0) < number_in last → held < number_in last
+newer_than me out looked held last is holds above =
+    let same = ap (λ (z : Sat). held_in (steps_in z.0)) is in
+    let kept = held-loads 0 out looked in
+    omega arith
 
 pub ended_counted : (es looked new : List Made) (out : List ℕ) (last first old taken now : ℕ) → looked ≡ with_look first old es → new ≡ made.Ended last ∷ with_loads 0 out looked
     → taken ≡ min (length (takes_in looked)) (2 ^ 64 - 1) → now ≡ min (taken + 1) (2 ^ 64 - 1) → now ≡ min (length (takes_in new)) (2 ^ 64 - 1)

@@ -7,6 +7,8 @@ use Rattle.io_buffers.specs.declared.views.Made.{Made}
 use Rattle.io_buffers.specs.declared.shared.Exchange.{Exchange}
 use Rattle.io_buffers.specs.declared.shared.ProducerPass.{ProducerPass}
 use Rattle.io_buffers.specs.declared.shared.ConsumerPass.{ConsumerPass}
+pub use Rattle.swap_core.specs.Runs.{publication}
+pub use Rattle.io_buffers.specs.Steps.{publications, IsOfPublication, IsTake}
 
 -- the words of a publication
 abbrev pub width_of : Exchange → ℕ
@@ -27,14 +29,18 @@ published_by pass = published_in (producer_steps pass)
 abbrev pub taken_by : ConsumerPass → List Given
 taken_by pass = takes_in (consumer_steps pass)
 
--- the table that an exchange or a pass belongs to
-abbrev pub table_of : Exchange → TableId
+-- what tells an exchange from every other one
+abbrev pub ExchangeId : Type 0
+ExchangeId = TableId
+
+-- what tells the exchange that this is, or that a pass belongs to
+abbrev pub table_of : Exchange → ExchangeId
 table_of exchange = exchange.table.shared.table_id
 
-abbrev pub producer_table : ProducerPass → TableId
+abbrev pub producer_table : ProducerPass → ExchangeId
 producer_table pass = pass.seat.table_id
 
-abbrev pub consumer_table : ConsumerPass → TableId
+abbrev pub consumer_table : ConsumerPass → ExchangeId
 consumer_table pass = pass.seat.table_id
 
 -- a pass of this exchange

@@ -1,5 +1,5 @@
 -- The rule of the shared exchange, and what each kind of step tells its side.
-use Rattle.std.specs.Prelude.{◌≡◌, ◌⊎◌, ℕ, ◌<◌, ◌≤◌, IsTrue, List, [], ◌∷◌, length, take}
+use Rattle.std.specs.Prelude.{◌≡◌, ◌⊎◌, ℕ, ◌<◌, ◌≤◌, false, IsTrue, List, [], ◌∷◌, length, take}
 use Rattle.std.specs.List.{AllByRecursion}
 use Rattle.atomic_table.specs.Table as table
 use Rattle.swap_core.specs.Machine.{row_of}
@@ -9,7 +9,7 @@ use Rattle.io_buffers.specs.declared.views.Made.{Made}
 use Rattle.io_buffers.specs.declared.views.Made.TheVariants as made
 use Rattle.io_buffers.specs.declared.views.View.{View}
 use Rattle.io_buffers.specs.declared.views.View.TheVariants as view
-use Rattle.io_buffers.specs.Steps.{middle_in, fresh_in, number_in, draft_of, part_of, published_in, front_of, held_in, ready_in, loaded_in, takes_in, publications, IsOfPublication, NeverFell}
+use Rattle.io_buffers.specs.Steps.{middle_in, fresh_in, number_in, draft_of, part_of, published_in, front_of, held_in, ready_in, loaded_in, takes_in, steps_in, publications, IsOfPublication, NeverFell}
 
 -- the state of the core that the words and the steps of both sides are
 abbrev pub state_of : ℕ → ℕ → List ℕ → List Made → List Made → State
@@ -33,8 +33,9 @@ state_of m control cells p c =
 pub record IsExchange (m control : ℕ) (cells : List ℕ) (p c : List Made) : Type 0 where
   -- they are a sound state of the core
   pub sound : IsSound (state_of m control cells p c)
-  -- a fresh control word has the number of the last publication
+  -- from bit 3 on the control word has the number of the last publication where it is fresh, else 0
   pub number : IsTrue (fresh_in control) → number_in control ≡ length (published_in p)
+  pub spent : fresh_in control ≡ false → number_in control ≡ 0
   -- the draft row begins with the words stored since
   pub part : take (length (part_of p)) (row_of (state_of m control cells p c).slots (draft_of p)) ≡ part_of p
   pub room : length (part_of p) ≤ m
@@ -89,10 +90,10 @@ abbrev pub probes : table.Step ℕ → Sat → ℕ → Sat → Type 0
 probes st m r m' = m' ≡ (adds (made.Probed r) m.0, m.1)
 
 abbrev pub takes_row : table.Step ℕ → Sat → ℕ → Sat → Type 0
-takes_row st m r m' = (m' ≡ (adds (made.Took r) m.0, m.1)) × (middle_in r < 3)
+takes_row st m r m' = (m' ≡ (adds (made.Took r) m.0, m.1)) × (middle_in r < 3) × (held_in (steps_in m.0) < number_in r)
 
 abbrev pub loads : table.Step ℕ → Sat → ℕ → Sat → Type 0
 loads st m r m' = m' ≡ (adds (made.Loaded (place_in m.0) r) m.0, m.1)
 
 abbrev pub ends : table.Step ℕ → Sat → ℕ → Sat → Type 0
-ends st m r m' = m' ≡ (adds (made.Ended r) m.0, m.1)
+ends st m r m' = (m' ≡ (adds (made.Ended r) m.0, m.1)) × (IsTrue (fresh_in r) → held_in (steps_in m.0) < number_in r)

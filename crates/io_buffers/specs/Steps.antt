@@ -1,5 +1,5 @@
 -- What the steps of one side say. A list of steps has the last one first.
-use Rattle.std.specs.Prelude.{◌≡◌, ℕ, suc, ◌+◌, ◌*◌, ◌/◌, ◌%◌, ◌<◌, ◌≤◌, ◌==◌, Bool, false, not, if◌then◌else◌, List, [], ◌∷◌, ◌++◌, length, replicate}
+use Rattle.std.specs.Prelude.{◌≡◌, ℕ, suc, ◌+◌, ◌*◌, ◌/◌, ◌%◌, ◌<◌, ◌≤◌, ◌==◌, Bool, false, not, IsTrue, if◌then◌else◌, List, [], ◌∷◌, ◌++◌, length, replicate}
 use Rattle.std.specs.List.{AllByRecursion}
 use Rattle.swap_core.specs.Runs.{publication}
 use Rattle.io_buffers.specs.Given.{Given, given}
@@ -106,6 +106,19 @@ with_loads place (word ∷ words) es = with_loads (suc place) words (made.Loaded
 -- after a look, and a taking swap exactly where it saw fresh
 abbrev pub with_look : ℕ → ℕ → List Made → List Made
 with_look found old es = if fresh_in found then made.Took old ∷ made.Probed found ∷ es else made.Probed found ∷ es
+
+-- A take: a look, a taking swap exactly where it saw fresh, a load of each word, and a last look.
+pub record IsTake (before after : List Made) (t : Given) : Type 0 where
+  -- the control words that the first look, the taking swap and the last look found
+  pub first : ℕ
+  pub swapped : ℕ
+  pub last : ℕ
+  pub steps : after ≡ made.Ended last ∷ with_loads 0 t.words (with_look first swapped before)
+  -- it is fresh exactly where its first look saw fresh
+  pub fresh : t.taken.fresh ≡ fresh_in first
+  -- it is in its window exactly where its last look did not, and else that look found a greater number
+  pub in_window : t.taken.in_window ≡ not (fresh_in last)
+  pub newer : IsTrue (fresh_in last) → t.taken.number < number_in last
 
 -- all publications, of which number 0 is zeros
 abbrev pub publications : ℕ → List Made → List (List ℕ)

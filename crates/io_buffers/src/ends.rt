@@ -6,7 +6,8 @@ ghost use Rattle.io_buffers.specs.Given.{Given, given};
 use crate::taken::Taken;
 
 /// The consumer's ends of the apps' output exchanges and the producer's ends of their input exchanges, with
-/// room for one take and one publication of each app. Apps count from 0.
+/// room for one take and one publication of each app. What each take gives is settled before. Apps count
+/// from 0.
 pub trait Ends {
     // The number of apps.
     ghost apps: { Self → ℕ };
@@ -16,6 +17,9 @@ pub trait Ends {
 
     // The words of an app's input.
     ghost input_words: { Self → ℕ → ℕ };
+
+    // What a take from an app gives, now and after each call.
+    ghost offers: { Self → ℕ → Given };
 
     // The takes given for an app since this value was made.
     ghost takes: { Self → ℕ → List Given };
@@ -28,9 +32,11 @@ pub trait Ends {
         requires app { app < apps self.old }
         requires words { length out.old ≡ output_words self.old app }
         requires room { takes self.old app ≡ [] }
-        ensures given { takes self.new app ≡ takes self.old app ++ given result out.new ∷ [] }
+        ensures given { given result out.new ≡ offers self.old app }
+        ensures takes { takes self.new app ≡ takes self.old app ++ given result out.new ∷ [] }
         ensures other_takes { (other : ℕ) → other ≢ app → takes self.new other ≡ takes self.old other }
         ensures published { (other : ℕ) → published self.new other ≡ published self.old other }
+        ensures offers { (other : ℕ) → offers self.new other ≡ offers self.old other }
         ensures apps { apps self.new ≡ apps self.old }
         ensures output_words { (other : ℕ) → output_words self.new other ≡ output_words self.old other }
         ensures input_words { (other : ℕ) → input_words self.new other ≡ input_words self.old other };
@@ -43,6 +49,7 @@ pub trait Ends {
         ensures published { published self.new app ≡ published self.old app ++ words.now ∷ [] }
         ensures other_published { (other : ℕ) → other ≢ app → published self.new other ≡ published self.old other }
         ensures takes { (other : ℕ) → takes self.new other ≡ takes self.old other }
+        ensures offers { (other : ℕ) → offers self.new other ≡ offers self.old other }
         ensures apps { apps self.new ≡ apps self.old }
         ensures output_words { (other : ℕ) → output_words self.new other ≡ output_words self.old other }
         ensures input_words { (other : ℕ) → input_words self.new other ≡ input_words self.old other };

@@ -8,16 +8,28 @@ use crate::shared::{ConsumerPass, Exchange, ProducerPass};
 use irt_base::memory::NoMemory;
 use std::alloc::Global;
 
-/// An exchange whose publications have so many words, with the passes of its two sides, neither of which has
-/// made a step. Publication 0, all zeros, is held.
-pub fn exchange(
-    alloc: Global,
-    words: u16,
-) -> Result<(Exchange, ProducerPass, ConsumerPass), NoMemory>
+/// An exchange with the passes of its two sides, neither of which has made a step. Publication 0, all zeros,
+/// is held.
+#[derive(Drop)]
+pub struct Opening {
+    pub exchange: Exchange,
+    pub producer: ProducerPass,
+    pub consumer: ConsumerPass,
+    ghost publishes: { IsProducerOf exchange producer },
+    ghost takes: { IsConsumerOf exchange consumer },
+    ghost unpublished: { producer_steps producer ≡ [] },
+    ghost untaken: { consumer_steps consumer ≡ [] },
+}
+
+/// An exchange whose publications have so many words, at its beginning.
+pub fn exchange(alloc: Global, words: u16) -> Result<Opening, NoMemory>
     requires { words ≤ MAX_WORDS + 1 }
-    ensures width { IfOk result (λ made. width_of made.0 ≡ words) }
-    ensures producer { IfOk result (λ made. IsProducerOf made.0 made.1 × (producer_steps made.1 ≡ [])) }
-    ensures consumer { IfOk result (λ made. IsConsumerOf made.0 made.2 × (consumer_steps made.2 ≡ [])) }
+    ensures { IfOk result (λ opening. width_of opening.exchange ≡ words) }
 {
-    Exchange::open(alloc, words)
+    let (exchange, producer, consumer) = Exchange::open(alloc, words)?;
+    Ok(Opening {
+        exchange,
+        producer,
+        consumer,
+    })
 }

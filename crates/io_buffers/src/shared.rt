@@ -66,12 +66,12 @@ pub struct Closed {
 }
 
 impl Exchange {
-    ghost use Rattle.std.specs.Prelude.{IfOk, ◌++◌, ◌∷◌, ℕ};
+    ghost use Rattle.std.specs.Prelude.{IfOk, ◌++◌, ◌∷◌, ℕ, nat_lt};
     ghost use Rattle.std.specs.List.{AllByRecursion};
     ghost use Rattle.io_buffers.specs.Given.{given};
-    ghost use Rattle.io_buffers.specs.Steps.{with_stores, with_loads, with_look, fresh_in, publications, IsOfPublication, NeverFell};
-    ghost use Rattle.io_buffers.specs.declared.views.Made.TheVariants.{Published, Ended};
-    ghost use Rattle.io_buffers.specs.Passes.{width_of, producer_steps, consumer_steps, published_by, taken_by, IsProducerOf, IsConsumerOf, IsSameProducer, IsSameConsumer};
+    ghost use Rattle.io_buffers.specs.Steps.{with_stores, with_look, fresh_in, NeverFell};
+    ghost use Rattle.io_buffers.specs.declared.views.Made.TheVariants.{Published};
+    ghost use Rattle.io_buffers.specs.Passes.{width_of, producer_steps, consumer_steps, published_by, taken_by, publications, IsTake, IsOfPublication, IsProducerOf, IsConsumerOf, IsSameProducer, IsSameConsumer};
 
     // As `exchange` says.
     pub(crate) fn open(
@@ -106,6 +106,13 @@ impl Exchange {
         ))
     }
 
+    /// The number of words of a publication.
+    pub fn width(&self) -> usize
+        ensures { result ≡ width_of self.now }
+    {
+        self.words
+    }
+
     /// Stores each word, and makes them the newest publication by one swap: one step more than there are
     /// words. It takes no memory and waits for nobody.
     pub fn publish(&self, pass: &mut ProducerPass, words: &[u64])
@@ -127,18 +134,18 @@ impl Exchange {
     }
 
     /// Looks for a newer publication than the one held and takes it by one swap where there is one, loads
-    /// the words held into `out`, and looks once more: at most three steps more than there are words. It
-    /// takes no memory and waits for nobody.
+    /// the words held into `out`, and looks once more: at most three steps more than there are words. It is
+    /// fresh exactly where the first look found a newer one, and then its number is greater than the one held;
+    /// it is in its window exactly where the last look found none. It takes no memory and waits for nobody.
     pub fn take(&self, pass: &mut ConsumerPass, out: &mut [u64]) -> Taken
         requires own { IsConsumerOf self.now pass.old }
         requires words { length out.old ≡ width_of self.now }
         ensures own { IsSameConsumer pass.old pass.new }
-        ensures steps { (first old last : ℕ)
-            × (consumer_steps pass.new
-            ≡ Ended last ∷ with_loads 0 out.new (with_look first old (consumer_steps pass.old))) }
+        ensures steps { IsTake (consumer_steps pass.old) (consumer_steps pass.new) (given result out.new) }
         ensures count { length (consumer_steps pass.new)
             ≤ length (consumer_steps pass.old) + (length out.old + 3) }
         ensures number { result.number ≡ held_in (consumer_steps pass.new) }
+        ensures rises { result.fresh ≡ nat_lt (held_in (consumer_steps pass.old)) result.number }
         ensures taken { taken_by pass.new ≡ taken_by pass.old ++ given result out.new ∷ [] }
     {
         let fresh = self.look(pass);
@@ -159,6 +166,8 @@ impl Exchange {
         ensures steps { (first old : ℕ)
             × (result ≡ fresh_in first)
             × (consumer_steps pass.new ≡ with_look first old (consumer_steps pass.old)) }
+        ensures rises { result
+            ≡ nat_lt (held_in (consumer_steps pass.old)) (held_in (consumer_steps pass.new)) }
     {
         let found = self.table.shared.load::<Probe>(&mut pass.seat, 0);
         if !is_fresh(found) {

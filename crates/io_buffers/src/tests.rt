@@ -1,9 +1,9 @@
-ghost use Rattle.std.specs.Prelude.{◌≡◌, ◌==◌, ◌<◌, [], ◌∷◌, ℕ, if◌then◌else◌, option_to_list};
+ghost use Rattle.std.specs.Prelude.{◌≡◌, ◌==◌, ◌<◌, [], ◌∷◌, ℕ, true, false, if◌then◌else◌, option_to_list};
 ghost use Rattle.io_buffers.specs.Given.{given};
 ghost use Rattle.io_buffers.specs.Passes.{width_of, producer_steps, IsProducerOf, IsConsumerOf};
 
 use crate::ends::Ends;
-use crate::opening::exchange;
+use crate::opening::{Opening, exchange};
 use crate::plain::PlainExchange;
 use crate::shared::{Closed, ConsumerPass, Exchange, ProducerPass};
 use crate::taken::Taken;
@@ -53,7 +53,12 @@ fn plain_takes_the_newest(rt: HostRuntime) -> Result<(), Fail> {
 
 #[test]
 fn shared_takes_the_newest(rt: HostRuntime) -> Result<(), Fail> {
-    let (shared, mut producer, mut consumer) = exchange(rt.alloc(), 2)?;
+    let Opening {
+        exchange: shared,
+        mut producer,
+        mut consumer,
+    } = exchange(rt.alloc(), 2)?;
+    assert_eq!(rt; shared.width(), 2);
     let mut out = [9u64; 2];
     let first = shared.take(&mut consumer, &mut out);
     assert_eq!(rt;
@@ -135,7 +140,11 @@ fn take_all(shared: &Exchange, mut pass: ConsumerPass) -> (ConsumerPass, bool)
 
 #[test]
 fn two_threads_publish_and_take(rt: HostRuntime) -> Result<(), Fail> {
-    let (shared, producer, consumer) = exchange(rt.alloc(), 4)?;
+    let Opening {
+        exchange: shared,
+        producer,
+        consumer,
+    } = exchange(rt.alloc(), 4)?;
     let (producer, (consumer, good)) = join(
         &rt,
         || -> ProducerPass
@@ -174,6 +183,8 @@ impl Ends for OneApp {
     ghost output_words = { λ _ _. 1 };
 
     ghost input_words = { λ _ _. 1 };
+
+    ghost offers = { λ _ _. given (record { number = 0; fresh = false; in_window = true }) (0 ∷ []) };
 
     ghost takes = { λ s app. if app == 0 then option_to_list (option_map (λ t. given t (0 ∷ [])) s.taken) else [] };
 

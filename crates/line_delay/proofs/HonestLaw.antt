@@ -1,10 +1,11 @@
 -- Half rounds of honest responses are near the delay, all that are kept, and their median.
-use Rattle.std.proofs.Common.{◌≡◌, ℕ, ◌+◌, ◌-◌, ◌*◌, ◌≤◌, ◌<◌, List, [], ◌∷◌, ◌++◌, length, All, Result, Ok, Err, refl, sym, ap, ◌∙◌, subst, rules, arith}
+use Rattle.std.proofs.Common.{◌≡◌, ℕ, ◌+◌, ◌-◌, ◌*◌, ◌≤◌, ◌<◌, List, [], ◌∷◌, ◌++◌, length, All, pos, Result, Ok, Err, refl, sym, ap, ◌∙◌, subst, rules, arith}
 use Rattle.std.proofs.lemmas.Int.{ints}
 use Rattle.std.proofs.lemmas.Bool.Decides.{nat_tests}
 use Rattle.std.proofs.lemmas.List.{length-append, length-drop}
 use Rattle.std.proofs.lemmas.List.Elements.{All-nil, All-head, All-tail, All-push, All-drop, All-contains, All-cons}
 use Rattle.line_delay.specs.declared.line.LineFault.{LineFault}
+use Rattle.line_delay.specs.declared.line.LineFault.TheVariants.{TimesOutOfOrder}
 use Rattle.line_delay.specs.declared.line.TheConstants.{WINDOW, MAX_HALF_ROUND}
 use Rattle.line_delay.specs.Line.{half_of, half_round, newest, accepted, IsLowerMedian}
 use Rattle.irt_base.specs.Cycle.{IsNear}
@@ -98,3 +99,26 @@ pub one_more : (halves : List ℕ) (responses : List Stamps) (s : Stamps) →
     after_all halves (responses ++ s ∷ []) ≡ accepted (after_all halves responses) (half_round s.t1 s.t2 s.t3 s.t4)
 one_more halves [] s = refl
 one_more halves (r ∷ more) s = one_more (accepted halves (half_round r.t1 r.t2 r.t3 r.t4)) more s
+
+-- a response with the error 8 over the delay 10 that is refused
+refused_stamps : IsMeasurable 8 10 (record { t1 = 8; t2 = 2; t3 = 10018; t4 = 10012 })
+refused_stamps = record {
+  honest = record {
+    x1 = 0;
+    x2 = 10;
+    x3 = 10010;
+    x4 = 10020;
+    ahead = pos 0;
+    there = refl;
+    back = refl;
+    near1 = (omega arith, omega arith);
+    near2 = (omega arith, omega arith);
+    near3 = (omega arith, omega arith);
+    near4 = (omega arith, omega arith);
+  };
+  stay = omega arith;
+  short = omega arith;
+}
+
+refused_worked : half_round 8 2 10018 10012 ≡ Err TimesOutOfOrder
+refused_worked = refl
