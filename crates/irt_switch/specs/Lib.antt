@@ -1,0 +1,9 @@
+pub mod Ports
+pub mod State
+pub mod Release
+pub mod Order
+pub mod Kept
+pub mod Begin
+pub mod Arrive
+pub mod Causes
+pub mod Played
