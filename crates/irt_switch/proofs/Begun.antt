@@ -62,8 +62,8 @@ one_begun bundle k place limit old new tx was after h below period is_limit is b
                 let same : place ≡ index = omega arith in
                 let At : ℕ → Type 0 = λ n. period_at bundle.periods (n + 1) k Tx ≡ Some other → slice_get (set new place after) n ≡ option_map (begun_gate bundle other) (slice_get old n) in
                 let there : At place = λ given.
-                    let one : tx ≡ other = same_Some tx other (sym period ∙ given) in
-                    set_here ∙ ap Some (gate ∙ ap (λ (p : Period). begun_gate bundle p was) one) ∙ sym (ap (option_map (begun_gate bundle other)) here) in
+                let one : tx ≡ other = same_Some tx other (sym period ∙ given) in
+                set_here ∙ ap Some (gate ∙ ap (λ (p : Period). begun_gate bundle p was) one) ∙ sym (ap (option_map (begun_gate bundle other)) here) in
                 subst At same there at
           ];
       room = λ index w low at.

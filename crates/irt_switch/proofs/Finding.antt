@@ -65,7 +65,7 @@ find-at frame (x ∷ xs) (suc i) up point =
 -- what a search by halves finds
 pub entry_at_point : (frame : ℕ) (xs : List Entry) (i : ℕ) → IsStrictlyIncreasing (frames_of xs) →
     (IsPartitionedBy (λ (e : Entry). ltb e.frame.0 frame) xs →
-      IsPartitionPoint (λ (e : Entry). ltb e.frame.0 frame ≡ true) (λ (e : Entry). ltb e.frame.0 frame ≡ false) xs i) →
+    IsPartitionPoint (λ (e : Entry). ltb e.frame.0 frame ≡ true) (λ (e : Entry). ltb e.frame.0 frame ≡ false) xs i) →
     find (λ (e : Entry). e.frame.0 == frame) xs ≡ option_and_then (if_frame frame) (slice_get xs i)
 entry_at_point frame xs i increasing point =
     let up = ascending xs increasing in

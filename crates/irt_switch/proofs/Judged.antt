@@ -92,10 +92,10 @@ late_test bundle r e is =
     let some = some_ports e is.leaves.0 is.leaves.1 in
     let more : ltb 0 (ports_of e.tx) ≡ true = grind (arith, nat_tests) in
     let past : not (int_le (r.local +ℤ pos bundle.global.bridge) (pos e.send_offset)) ≡ true =
-        elim (cases_Bool (int_le (r.local +ℤ pos bundle.global.bridge) (pos e.send_offset))) [
-          | inl so ↦ absurd (is.late (le_true _ _ so))
-          | inr other ↦ ap not other
-        ] in
+    elim (cases_Bool (int_le (r.local +ℤ pos bundle.global.bridge) (pos e.send_offset))) [
+      | inl so ↦ absurd (is.late (le_true _ _ so))
+      | inr other ↦ ap not other
+    ] in
     and_from _ _ (and_from _ _ (ap not is.absolute) more) past
 
 pub late_meaning : (bundle : Bundle) (r : Reception) (e : Entry) → e.tx < 2 ^ 8 → is_late bundle e r.local ≡ true → ComesLate bundle r e

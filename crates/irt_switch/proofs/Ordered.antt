@@ -38,7 +38,7 @@ pairs_of_steps R follows xs step i zero d before below = absurd (omega arith)
 pairs_of_steps {X} R follows xs step i (suc j) d before below =
     let At : ℕ → Type 0 = λ n. R (get_or xs i d) (get_or xs n d) in
     let last : R (get_or xs j d) (get_or xs (suc j) d) =
-        let To : ℕ → Type 0 = λ n. R (get_or xs j d) (get_or xs n d) in subst To (omega arith) (step j d (omega arith)) in
+    let To : ℕ → Type 0 = λ n. R (get_or xs j d) (get_or xs n d) in subst To (omega arith) (step j d (omega arith)) in
     elim (cases_lt i j) [
       | inl less ↦ follows (get_or xs i d) (get_or xs j d) (get_or xs (suc j) d) (pairs_of_steps R follows xs step i j d less (omega arith)) last
       | inr same ↦

@@ -51,8 +51,8 @@ sent_on_by : (bundle : Bundle) (k : ℕ) (r : Reception) (bridge : ℕ) (e : Ent
 sent_on_by bundle k r bridge e is =
     ap (λ (o : Option Entry). action_by bundle r.local bridge (taken_by bundle k r o)) is.found
     ∙ ap (λ (a : Bool). action_by bundle r.local bridge
-      (if not a then Err WrongPort else if not (is_received_in_red bundle k e r.local r.port) then Err OutsideRx else
-      if is_late bundle e r.local then Err TooLate else Ok e)) (eq-eqb e.rx_port r.port is.port)
+    (if not a then Err WrongPort else if not (is_received_in_red bundle k e r.local r.port) then Err OutsideRx else
+    if is_late bundle e r.local then Err TooLate else Ok e)) (eq-eqb e.rx_port r.port is.port)
     ∙ ap (λ (b : Bool). action_by bundle r.local bridge (if not b then Err OutsideRx else if is_late bundle e r.local then Err TooLate else Ok e)) is.red
     ∙ ap (λ (c : Bool). action_by bundle r.local bridge (if c then Err TooLate else Ok e)) is.early
 

@@ -28,7 +28,9 @@ pub enum Action {
         here: bool,
     },
     /// It is dropped.
-    Dropped { cause: Cause },
+    Dropped {
+        cause: Cause,
+    },
 }
 
 /// Why a frame is dropped: the first cause that applies, in this order.

@@ -42,7 +42,7 @@ pub struct Switch {
 
 impl Model for Switch {
     ghost use Rattle.rtc3_frame.specs.Frame.{fields_at};
-ghost use Rattle.irt_switch.specs.State.{SwitchState};
+    ghost use Rattle.irt_switch.specs.State.{SwitchState};
     ghost use Rattle.irt_switch.specs.Order.{still_due};
     ghost use Rattle.irt_switch.specs.Kept.{IsWhole};
 
@@ -74,6 +74,13 @@ impl Switch {
             in_step: false,
             gates: new_gates(alloc, bundle.periods.ports.len())?,
         })
+    }
+
+    /// Whether the device has such a port.
+    pub fn has_port(&self, port: PortNo) -> bool
+        ensures { IsTrue result ↔ HasPort self.now.bundle port.0 }
+    {
+        1 <= port.0 && usize::from(port.0) <= self.bundle.periods.ports.len()
     }
 
     /// Begins cycle `k`, in which the device is in step or not: its frames are to be released, and its gates begin.
@@ -176,7 +183,12 @@ impl Switch {
         ensures early { IsTrue result → local ≤ℤ pos (2 ^ 32) }
     {
         let rx = period(&self.bundle.periods, port, self.cycle, Side::Rx);
-        is_in_red(rx, guard(self.bundle.sync.window), wire(entry.data_length), local)
+        is_in_red(
+            rx,
+            guard(self.bundle.sync.window),
+            wire(entry.data_length),
+            local,
+        )
     }
 
     /// Whether an absolute device has to send the frame on before it surely has it.
