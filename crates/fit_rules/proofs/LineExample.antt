@@ -6,6 +6,7 @@ use Rattle.std.proofs.lemmas.Option.{same_Some}
 use Rattle.irt_base.specs.declared.blocks.Entry.{Entry}
 use Rattle.irt_base.specs.declared.plants.Mode.TheVariants as modes
 use Rattle.irt_base.specs.declared.plants.Plant.{Plant}
+use Rattle.plan_rules.specs.Arrival.{IsPlanned}
 use Rattle.plan_rules.specs.Way.{entry_at, IsAnchor}
 use Rattle.plan_rules.specs.SendWindow.{SendWindow, at_anchor}
 use Rattle.fit_rules.specs.declared.frame_plan.FramePlan.{FramePlan}
@@ -219,3 +220,28 @@ last_end = record {
   bound = λ v port e w sending. ends_by v port e w (sent_of 0x101 6720 12520 v port e w sending);
   some = (1, 2, entry 0x101 12520 1 4, at 12520 1, using_next 0x101 6720 12520, refl);
 }
+
+-- the last device has a frame 8520 ns after the middle one starts it: at 14320 the first, at 21040 the second
+planned : (frame first second : ℕ) → IsPlanned (alone absolute (plan frame first second)) 2 frame (second + 8520)
+planned frame first second = record {
+  e = entry frame 0 1 1;
+  parent = 1;
+  port = 2;
+  hop = 800;
+  window = at second 1;
+  stands = entry_stands absolute (plan frame first second).entries 2 frame (entry frame 0 1 1) refl refl;
+  comes = record {
+    received = omega arith;
+    sent = (entry frame second 1 4, stands_next frame first second, (using_next frame first second).leaves);
+    leads = refl;
+  };
+  hops = refl;
+  sends = (using_next frame first second).sends;
+  is = omega arith;
+}
+
+first_planned : IsPlanned (alone absolute (plan 0x100 0 5800)) 2 0x100 14320
+first_planned = planned 0x100 0 5800
+
+second_planned : IsPlanned (alone absolute (plan 0x101 6720 12520)) 2 0x101 21040
+second_planned = planned 0x101 6720 12520

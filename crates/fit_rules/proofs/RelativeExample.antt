@@ -11,6 +11,7 @@ use Rattle.irt_base.specs.declared.numbers.PortNo.{PortNo}
 use Rattle.irt_base.specs.declared.plants.Link.{Link}
 use Rattle.irt_base.specs.declared.plants.Mode.TheVariants as modes
 use Rattle.irt_base.specs.declared.plants.Plant.{Plant}
+use Rattle.plan_rules.specs.Arrival.{IsPlanned}
 use Rattle.plan_rules.specs.Way.{Setup, entry_at, IsAnchor}
 use Rattle.plan_rules.specs.SendWindow.{SendWindow, HasWindow, at_anchor, behind}
 use Rattle.fit_rules.specs.declared.frame_plan.FramePlan.{FramePlan}
@@ -214,3 +215,28 @@ last_end = record {
   bound = λ v port e w sending. ends_by v port e w (sent_of 0x101 8720 v port e w sending);
   some = (1, 2, entry 0x101 0 1 4, behind_first 8720, using_next 0x101 8720, refl);
 }
+
+-- the last device has a frame 12320 ns after the first one starts it
+planned : (frame first : ℕ) → IsPlanned (alone_in frame first) 2 frame (first + 12320)
+planned frame first = record {
+  e = entry frame 0 1 1;
+  parent = 1;
+  port = 2;
+  hop = 800;
+  window = behind_first first;
+  stands = entry_stands relative (plan frame first 0).entries 2 frame (entry frame 0 1 1) refl refl;
+  comes = record {
+    received = omega arith;
+    sent = (entry frame 0 1 4, stands_next frame first, (using_next frame first).leaves);
+    leads = refl;
+  };
+  hops = refl;
+  sends = (using_next frame first).sends;
+  is = omega arith;
+}
+
+first_planned : IsPlanned (alone_in 0x100 0) 2 0x100 12320
+first_planned = planned 0x100 0
+
+second_planned : IsPlanned (alone_in 0x101 8720) 2 0x101 21040
+second_planned = planned 0x101 8720
