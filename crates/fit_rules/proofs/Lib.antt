@@ -2,6 +2,7 @@ pub mod Accepted
 pub mod Alike
 pub mod Bytes
 pub mod Counting
+pub mod Delayed
 pub mod Entries
 pub mod Finding
 pub mod FrameRules

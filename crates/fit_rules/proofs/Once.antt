@@ -73,7 +73,7 @@ phases_agree end phase other_end other_phase a b = elim a [
 ]
 
 module _ (plant : Plant) (parents : Parents) (demand : Demand) (routed : IsRouted plant parents demand) where
-  same_ready : (plan : FramePlan) (device : ℕ) (e : Entry) (r s : ℕ) →
+  pub same_ready : (plan : FramePlan) (device : ℕ) (e : Entry) (r s : ℕ) →
       IsReady plant plan device e r → IsReady plant plan device e s → r ≡ s
   same_ready plan device e r s (inl (own, is)) (inl (also, at)) = is ∙ sym at
   same_ready plan device e r s (inl (own, is)) (inr when) = let received : 1 ≤ e.rx_port = when.comes.comes.received in absurd (omega arith)

@@ -107,7 +107,7 @@ module _ (plant : Plant) (parents : Parents) (demand : Demand) where
       | inr past ↦ no_entry e (sym (get_or_past plan.entries anchor None past) ∙ there)
     ]
 
-    moved_here : entry_of (moved plan anchor x) anchor ≡ Some (with_offset x e)
+    pub moved_here : entry_of (moved plan anchor x) anchor ≡ Some (with_offset x e)
     moved_here = get_or-set_same plan.entries anchor (option_map (with_offset x) (entry_of plan anchor)) None within ∙ ap (option_map (with_offset x)) there
 
     moved_else : (device : ℕ) → device ≢ anchor → entry_of (moved plan anchor x) device ≡ entry_of plan device

@@ -4,3 +4,4 @@ pub mod Order
 pub mod Blocks
 pub mod Printed
 pub mod Moves
+pub mod Delays

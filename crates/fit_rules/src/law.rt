@@ -1,6 +1,6 @@
 //! Laws of first fit.
 
-ghost use Rattle.std.specs.Prelude.{◌≡◌, ℕ, ◌+◌, ◌≤◌, ◌<◌, List, Some, Contains};
+ghost use Rattle.std.specs.Prelude.{◌≡◌, ℕ, ◌+◌, ◌≤◌, ◌<◌, ◌↔◌, List, Some, Contains};
 ghost use Rattle.irt_base.specs.Cycle.{SharesCycle, wire_time};
 ghost use Rattle.irt_base.specs.declared.blocks.Bundle.{Bundle};
 ghost use Rattle.irt_base.specs.declared.blocks.Entry.{Entry};
@@ -17,6 +17,7 @@ ghost use Rattle.plan_rules.specs.SendWindow.{SendWindow, HasWindow, slack_time}
 ghost use Rattle.plan_rules.specs.Way.{Setup, IsAnchor};
 ghost use Rattle.fit_rules.specs.declared.frame_plan.FramePlan.{FramePlan};
 ghost use Rattle.fit_rules.specs.Blocks.{AreFirstFit};
+ghost use Rattle.fit_rules.specs.Delays.{IsAtZero, AreRoomyAt, IsReadyAfter};
 ghost use Rattle.fit_rules.specs.Shape.{alone, entry_of, moved, IsRatioFor, HasShape};
 ghost use Rattle.fit_rules.specs.Fit.{IsUsing, IsClearAt, IsReady, IsFitted, IsInPhase, IsLastEnd, IsFirstFit, end_time};
 ghost use Rattle.fit_rules.specs.Moves.{IsAlike, SharesWay, IsShifted, AreTooClose, AgreeAbove, offset_at};
@@ -72,6 +73,28 @@ pub fn shapes_shift()
         (anchor x : ℕ) (e : Entry) → entry_of plan anchor ≡ Some e → IsAnchor (alone plant plan) anchor e →
         HasShape plant parents demand ratio phase (moved plan anchor x) }
 {}
+
+/// A plan whose anchors all start at 0 says in plain numbers, for all ratios and phases, at which offsets an anchor is
+/// clear, and so long after which other offset it is ready.
+pub fn fits_in_numbers()
+    ensures clear { (plant : Plant) (parents : Parents) (demand : Demand) →
+        (base_ratio base_phase : ℕ) (base : FramePlan) → HasShape plant parents demand base_ratio base_phase base → IsAtZero base →
+        (ratio phase : ℕ) (plan : FramePlan) → HasShape plant parents demand ratio phase plan →
+        (anchor x : ℕ) (e : Entry) → entry_of plan anchor ≡ Some e → IsAnchor (alone plant plan) anchor e → (placed : List FramePlan) →
+        IsClearAt plant placed plan anchor x ↔ AreRoomyAt plant placed demand ratio phase base anchor x }
+    ensures ready { (plant : Plant) (parents : Parents) (demand : Demand) →
+        (base_ratio base_phase : ℕ) (base : FramePlan) → HasShape plant parents demand base_ratio base_phase base → IsAtZero base →
+        (ratio phase : ℕ) (plan : FramePlan) → HasShape plant parents demand ratio phase plan →
+        (device anchor gap y : ℕ) (e : Entry) → entry_of plan device ≡ Some e → IsReadyAfter plant base device anchor gap →
+        offset_at plan anchor ≡ Some y → IsReady plant plan device e (y + gap) }
+    ensures one_ready { (plant : Plant) (routes : RouteTables) (index : ℕ) (demand : Demand) → IsRoutesOf plant routes →
+        IsDemandAt plant index demand → (plan : FramePlan) (device : ℕ) (e : Entry) (ready other : ℕ) →
+        IsReady plant plan device e ready → IsReady plant plan device e other → ready ≡ other }
+{
+    ways_are_one();
+    parents_of_trees();
+    chains_of_trees();
+}
 
 /// Two plans of a demand in one ratio and phase have the same entries but for offsets. So an offset is clear in both or
 /// in neither. Where they agree above an anchor, they agree at it if both are fitted there, and neither is fitted there
