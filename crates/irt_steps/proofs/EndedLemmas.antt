@@ -1,11 +1,11 @@
 -- From the steps of a command to the way in which a call ends.
-use Rattle.std.proofs.Common.{◌≡◌, ◌≢◌, ◌⊎◌, ℕ, List, Option, Some, None, Result, Ok, Err, inl, inr, refl, sym, ◌∙◌, ap, subst}
+use Rattle.std.proofs.Common.{◌≡◌, ◌⊎◌, ℕ, List, Option, Some, None, Result, Ok, Err, inl, inr, refl, sym, ◌∙◌, ap, subst}
 use Rattle.std.specs.Global.{Vec}
 use Rattle.irt_io.specs.Files.{Files}
 use Rattle.irt_io.specs.Taken.{Appends}
 use Rattle.irt_steps.specs.declared.stop.Stop.{Stop}
 use Rattle.irt_steps.specs.declared.stop.Stop.TheVariants as stops
-use Rattle.irt_steps.specs.Steps.{Ending, ending, Steps, IsOneWay}
+use Rattle.irt_steps.specs.Steps.{Ending, ending, Steps, ends, IsOneWay}
 use Rattle.irt_steps.specs.Follow.{status_of, Follows, HasCause}
 use Rattle.irt_steps.proofs.OneWay.{comes_one}
 use Rattle.irt_steps.specs.Ended.{ended, Counts, Rose, IsOutcome, IsShelfFault, EndsAs, as_stated, shelf_failed, sink_failed, no_memory, no_text, PrintsAs, whole, failed, no_room, FinishesAs}
@@ -38,25 +38,14 @@ finishes steps (Err (stops.Fault line)) shelf sink old new before after status f
 finishes steps (Err stops.NoMemory) shelf sink old new before after status follows cause prints =
     subst (λ s. EndsAs steps shelf sink old new before after s) (sym prints.0) (no_text follows prints.1)
 
--- what was printed with another status than those of faults and of want of memory
-pub stated_of : (steps : Steps (List ℕ)) (shelf sink : Counts) (old new : Option Files) (before after : Option (List ℕ)) (status : ℕ) →
-    EndsAs steps shelf sink old new before after status → status ≢ 2 → status ≢ 12 → status ≢ 13 →
-    (o : Ending) × IsOutcome steps old new o × (o.status ≡ status) × Appends before after o.text
-stated_of steps shelf sink old new before after _ (as_stated o is appends) not2 not12 not13 = (o, is, refl, appends)
-stated_of steps shelf sink old new before after _ (shelf_failed text is appends) not2 not12 not13 = absurd (not2 refl)
-stated_of steps shelf sink old new before after _ (sink_failed rose text is front) not2 not12 not13 = absurd (not12 refl)
-stated_of steps shelf sink old new before after _ (no_memory text is front) not2 not12 not13 = absurd (not13 refl)
-stated_of steps shelf sink old new before after _ (no_text halts kept) not2 not12 not13 = absurd (not13 refl)
-
--- where every outcome has status 0 and no fault was counted
-pub complete_of : (steps : Steps (List ℕ)) (shelf sink : Counts) (old new : Option Files) (before after : Option (List ℕ)) (status : ℕ) →
-    EndsAs steps shelf sink old new before after status → ((o : Ending) → IsOutcome steps old new o → o.status ≡ 0) → ¬ Rose shelf → ¬ Rose sink →
-    (status ≡ 0) ⊎ (status ≡ 13)
-complete_of steps shelf sink old new before after _ (as_stated o is appends) zero calm quiet = inl (zero o is)
-complete_of steps shelf sink old new before after _ (shelf_failed text is appends) zero calm quiet = absurd (calm is.rose)
-complete_of steps shelf sink old new before after _ (sink_failed rose text is front) zero calm quiet = absurd (quiet rose)
-complete_of steps shelf sink old new before after _ (no_memory text is front) zero calm quiet = inr refl
-complete_of steps shelf sink old new before after _ (no_text halts kept) zero calm quiet = inr refl
+-- a call that only ends
+pub ends_plainly : (e : Ending) (shelf sink : Counts) (old new : Option Files) (before after : Option (List ℕ)) (status : ℕ) →
+    EndsAs (ends e) shelf sink old new before after status → (status ≡ e.status) ⊎ (status ≡ 12) ⊎ (status ≡ 13)
+ends_plainly e shelf sink old new before after _ (as_stated o is appends) = inl (ap (λ (x : Ending). x.status) (is.is ∙ ap ended is.comes.0))
+ends_plainly e shelf sink old new before after _ (shelf_failed text is appends) = absurd is.fails
+ends_plainly e shelf sink old new before after _ (sink_failed rose text is front) = inr (inl refl)
+ends_plainly e shelf sink old new before after _ (no_memory text is front) = inr (inr refl)
+ends_plainly e shelf sink old new before after _ (no_text halts kept) = inr (inr refl)
 
 -- where the questions of the steps have one answer, the outcome over files that are told is the only one
 pub exact_of : (steps : Steps (List ℕ)) (shelf sink : Counts) (files : Files) (new : Option Files) (before after : Option (List ℕ)) (status : ℕ) →
@@ -68,13 +57,3 @@ exact_of steps shelf sink files new before after _ (shelf_failed text so appends
 exact_of steps shelf sink files new before after _ (sink_failed rose text so front) one o end is = inr (inr (inl refl))
 exact_of steps shelf sink files new before after _ (no_memory text so front) one o end is = inr (inr (inr refl))
 exact_of steps shelf sink files new before after _ (no_text halts kept) one o end is = inr (inr (inr refl))
-
--- the status is one that an outcome has, or that of a fault or of want of memory
-pub listed_of : (steps : Steps (List ℕ)) (shelf sink : Counts) (old new : Option Files) (before after : Option (List ℕ)) (status : ℕ) (Listed : ℕ → Type 0) →
-    EndsAs steps shelf sink old new before after status → ((o : Ending) → IsOutcome steps old new o → Listed o.status) → Listed 2 → Listed 12 → Listed 13 →
-    Listed status
-listed_of steps shelf sink old new before after _ Listed (as_stated o is appends) each two twelve thirteen = each o is
-listed_of steps shelf sink old new before after _ Listed (shelf_failed text is appends) each two twelve thirteen = two
-listed_of steps shelf sink old new before after _ Listed (sink_failed rose text is front) each two twelve thirteen = twelve
-listed_of steps shelf sink old new before after _ Listed (no_memory text is front) each two twelve thirteen = thirteen
-listed_of steps shelf sink old new before after _ Listed (no_text halts kept) each two twelve thirteen = thirteen

@@ -19,7 +19,7 @@ err_same : {A B : Type 0} {d e : Ending} → stopped {A = A} e ≡ stopped {A = 
 err_same is = cc
 
 -- the first steps give a value, and the next ones lead on from there
-comes_on : {A B : Type 0} (steps : Steps A) (f : A → Steps B) (old mid new : Option Files) (x : A) (result : Result B Ending) →
+pub comes_on : {A B : Type 0} (steps : Steps A) (f : A → Steps B) (old mid new : Option Files) (x : A) (result : Result B Ending) →
     Comes steps old mid (Ok x) → Comes (f x) mid new result → Comes (after steps f) old new result
 comes_on (gives y) f old mid new x result (is, kept) next = subst (λ z. Comes (f z) old new result) (ok_same is) (subst (λ m. Comes (f x) m new result) kept next)
 comes_on (ends e) f old mid new x result (is, kept) next = absurd cc
@@ -29,7 +29,7 @@ comes_on (stores name bytes more) f old mid new x result (between, stored, comes
 comes_on (asks P more) f old mid new x result (b, holds, comes) next = (b, holds, comes_on (more b) f old mid new x result comes next)
 
 -- an ending of the first steps is one of all
-comes_end : {A B : Type 0} (steps : Steps A) (f : A → Steps B) (old new : Option Files) (e : Ending) → Comes steps old new (Err e) → Comes (after steps f) old new (Err e)
+pub comes_end : {A B : Type 0} (steps : Steps A) (f : A → Steps B) (old new : Option Files) (e : Ending) → Comes steps old new (Err e) → Comes (after steps f) old new (Err e)
 comes_end (gives y) f old new e (is, kept) = absurd cc
 comes_end (ends d) f old new e (is, kept) = (err_same is, kept)
 comes_end (loads name limit more) f old new e (inl (bytes, held, comes)) = inl (bytes, held, comes_end (more bytes) f old new e comes)
@@ -148,6 +148,15 @@ judged_by : {A : Type 0} (answer : Result A Ending) (old new : Option Files) (re
 judged_by (Ok x) old new result comes = comes
 judged_by (Err e) old new result comes = comes
 
+judged_comes : {A : Type 0} (answer result : Result A Ending) (files : Option Files) → answer ≡ result → Comes (judged answer) files files result
+judged_comes (Ok x) result files is = (sym is, refl)
+judged_comes (Err e) result files is = (sym is, refl)
+
+-- a file that is held is loaded and judged
+pub reads : {A : Type 0} (name : List ℕ) (limit : ℕ) (answer : List ℕ → Result A Ending) (files : Option Files) (bytes : List ℕ) (result : Result A Ending) →
+    IsHeld files name limit bytes → answer bytes ≡ result → Comes (loads name limit (λ bytes. judged (answer bytes))) files files result
+reads name limit answer files bytes result held is = inl (bytes, held, judged_comes (answer bytes) result files is)
+
 -- a file was loaded and judged
 pub read_by : {A : Type 0} (name : List ℕ) (limit : ℕ) (answer : List ℕ → Result A Ending) (old new : Option Files) (result : Result A Ending) →
     Comes (loads name limit (λ bytes. judged (answer bytes))) old new result →
@@ -198,3 +207,15 @@ loads_later (loads at most more) f files mid now x name limit (inl (bytes, held,
 loads_later (loads at most more) f files mid now x name limit (inr (e, why, is, kept)) next = absurd cc
 loads_later (stores at bytes more) f files mid now x name limit (between, stored, comes) next = (between, stored, loads_later more f between mid now x name limit comes next)
 loads_later (asks P more) f files mid now x name limit (b, holds, comes) next = (b, holds, loads_later (more b) f files mid now x name limit comes next)
+
+-- steps end at a file that cannot be loaded
+pub unloaded_next : {A : Type 0} (steps : Steps A) (files now : Option Files) (name : List ℕ) (limit : ℕ) (e : Ending) → LoadsNext steps files name limit now →
+    IsUnloaded now name limit e → Comes steps files now (Err e)
+unloaded_next (gives y) files now name limit e next why = absurd next
+unloaded_next (ends d) files now name limit e next why = absurd next
+unloaded_next (loads at most more) files now name limit e (inl (same, bound, kept)) why =
+    let here : IsUnloaded files at most e = subst (λ n. IsUnloaded files n most e) same (subst (λ l. IsUnloaded files name l e) bound (subst (λ f. IsUnloaded f name limit e) kept why)) in
+    inr (e, here, refl, kept)
+unloaded_next (loads at most more) files now name limit e (inr (bytes, held, next)) why = inl (bytes, held, unloaded_next (more bytes) files now name limit e next why)
+unloaded_next (stores at bytes more) files now name limit e (between, stored, next) why = (between, stored, unloaded_next more between now name limit e next why)
+unloaded_next (asks P more) files now name limit e (b, holds, next) why = (b, holds, unloaded_next (more b) files now name limit e next why)

@@ -7,4 +7,7 @@
 
 pub mod asked;
 mod grammar;
+pub mod law;
 pub mod reading;
+#[cfg(test)]
+mod tests;
