@@ -11,14 +11,14 @@ use Rattle.irt_base.specs.declared.plants.Plant.{Plant}
 use Rattle.irt_steps.specs.declared.stop.Stop.{Stop}
 use Rattle.irt_steps.specs.declared.stop.Stop.TheVariants as stops
 use Rattle.irt_steps.specs.Steps.{ending, gives}
-use Rattle.irt_steps.specs.Follow.{Follows, Decides, IsEnding}
-use Rattle.irt_steps.proofs.StepLemmas.{follow_on, follow_stop, follow_decided}
-use Rattle.plan_check.specs.Verdicts.{IsJudged}
-use Rattle.plan_rules.specs.Plan.{IsPlan}
+use Rattle.irt_io.specs.Fault.{IsLater, HasRisen}
+use Rattle.irt_steps.specs.Follow.{Follows, Decides, HasCause, IsEnding}
+use Rattle.irt_steps.proofs.StepLemmas.{follow_on, follow_stop}
 use Rattle.plan_rules.specs.Places.{IsReject}
 use Rattle.plan_rules.specs.declared.place.Reject.{Reject}
-use Rattle.irt_main.specs.Commands.{device_steps, bundles_steps, verdict_steps, name_of}
-use Rattle.irt_main.specs.Lines.{reject_line}
+use Rattle.plan_check.specs.Verdicts.{IsJudged}
+use Rattle.irt_main.specs.Check.{verdict_steps, rejected}
+use Rattle.irt_main.specs.DeviceFiles.{device_steps, bundles_steps}
 
 -- a device that was looked up
 pub found_device : (devices : List Device) (n m : ℕ) (d other : Device) → n < length devices → d ≡ get_or devices n other → n ≡ m → slice_get devices m ≡ Some d
@@ -61,8 +61,7 @@ pub none_left : (devices : List Device) (front : List Bundle) (held : Option Fil
 none_left devices front held at = subst (λ ds. Follows same (bundles_steps ds front) held held (Ok front)) (sym (no_device devices (length front) at)) (given held)
   where
     given : (held : Option Files) → Follows same (gives front) held held (Ok front)
-    given None = tt
-    given (Some files) = (refl, refl)
+    given files = (refl, refl)
 
 -- a device's file was read
 pub one_more : (devices : List Device) (d : Device) (front next : List Bundle) (old mid new : Option Files) (result : Result (List Bundle) Stop) →
@@ -91,22 +90,30 @@ from_none held devices front old new result same_devices none follows =
 
 -- ---- the verdict
 
-rejects_on : (plant : Plant) (bundles : List Bundle) (reject : Reject) (stop : Stop) → IsPlan plant bundles → IsReject plant bundles reject →
-    IsEnding stop 8 (reject_line reject.rule (name_of plant reject.place.device.0) reject.place.port reject.place.frame reject.place.other) →
+rejects_on : (plant : Plant) (bundles : List Bundle) (reject : Reject) (stop : Stop) → IsReject plant bundles reject → IsEnding stop 8 (rejected plant reject).text →
     Decides (λ (v : Vec ℕ). v.items) (verdict_steps plant bundles) (Err stop)
-rejects_on plant bundles reject stops.NoMemory plan is ends files = inl refl
-rejects_on plant bundles reject (stops.Fault line) plan is ends files = absurd ends
-rejects_on plant bundles reject (stops.Ends cause line) plan is ends files =
-    (Some reject, record { plan = plan; judged = is }, (ap (λ s. Err (ending s line.items)) ends.0 ∙ ap (λ t. Err (ending 8 t)) ends.1, refl))
+rejects_on plant bundles reject stops.NoMemory is ends files = inl refl
+rejects_on plant bundles reject (stops.Fault line) is ends files = absurd ends
+rejects_on plant bundles reject (stops.Ends cause line) is ends files =
+    (Some reject, is, (ap (λ s. Err (ending s line.items)) ends.0 ∙ ap (λ t. Err (ending 8 t)) ends.1, refl))
 
-pub rejects : (plant : Plant) (bundles : List Bundle) (answer : Option Reject) (reject : Reject) (stop : Stop) → IsPlan plant bundles → IsJudged plant bundles answer →
-    answer ≡ Some reject → IsEnding stop 8 (reject_line reject.rule (name_of plant reject.place.device.0) reject.place.port reject.place.frame reject.place.other) →
-    Decides (λ (v : Vec ℕ). v.items) (verdict_steps plant bundles) (Err stop)
-rejects plant bundles answer reject stop plan is same ends = rejects_on plant bundles reject stop plan (subst (IsJudged plant bundles) same is) ends
+pub rejects : (plant : Plant) (bundles : List Bundle) (found : Option Reject) (reject : Reject) (stop : Stop) → IsJudged plant bundles found → found ≡ Some reject →
+    IsEnding stop 8 (rejected plant reject).text → Decides (λ (v : Vec ℕ). v.items) (verdict_steps plant bundles) (Err stop)
+rejects plant bundles found reject stop is same ends = rejects_on plant bundles reject stop (subst (IsJudged plant bundles) same is) ends
 
 -- the verdict on blocks that were read
 pub follow_judged : (plant : Plant) (read bundles : List Bundle) (held : Option Files) (result : Result (Vec ℕ) Stop) → bundles ≡ read →
     Decides (λ (v : Vec ℕ). v.items) (verdict_steps plant bundles) result → Follows (λ (v : Vec ℕ). v.items) (verdict_steps plant read) held held result
-follow_judged plant read bundles held result is decides =
-    follow_decided (λ (v : Vec ℕ). v.items) (verdict_steps plant read) held result
-    (subst (λ bs. Decides (λ (v : Vec ℕ). v.items) (verdict_steps plant bs) result) is decides)
+follow_judged plant read bundles held result is decides = subst (λ bs. Decides (λ (v : Vec ℕ). v.items) (verdict_steps plant bs) result) is decides held
+
+-- ---- faults
+
+risen_after : (before mid now : ℕ) → IsLater before mid → HasRisen mid now → HasRisen before now
+risen_after before mid now later risen = grind arith
+
+-- a fault that was counted after the first steps was counted after the beginning
+pub cause_after : {A : Type 0} (before mid now : ℕ) (result : Result A Stop) → IsLater before mid → HasCause mid now result → HasCause before now result
+cause_after before mid now (Ok x) later cause = tt
+cause_after before mid now (Err stops.NoMemory) later cause = tt
+cause_after before mid now (Err (stops.Fault line)) later cause = risen_after before mid now later cause
+cause_after before mid now (Err (stops.Ends why line)) later cause = tt

@@ -1,6 +1,7 @@
-pub mod CauseLemmas
-pub mod CheckLemmas
-pub mod NameLemmas
-pub mod OneLemmas
-pub mod ReasonLemmas
-pub mod RightLemmas
+mod CallLemmas
+mod CauseLemmas
+mod CheckLemmas
+mod FileLemmas
+mod NameLemmas
+mod OneLemmas
+mod OutcomeLemmas

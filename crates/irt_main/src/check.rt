@@ -7,19 +7,19 @@ ghost use Rattle.irt_io.specs.Fault.{IsLater};
 ghost use Rattle.plant_rules.specs.Meets.{MeetsRules, IsDevice};
 ghost use Rattle.plan_rules.specs.Plan.{IsPlan};
 ghost use Rattle.irt_steps.specs.Follow.{Follows, Decides, HasCause, IsEnding, IsNoFault};
-ghost use Rattle.irt_main.specs.Commands.{check_steps, blocks_steps, bundles_steps, device_steps, verdict_steps, name_of};
+ghost use Rattle.irt_main.specs.Check.{check_steps, blocks_steps, verdict_steps, rejected};
+ghost use Rattle.irt_main.specs.DeviceFiles.{bundles_steps, device_steps};
 ghost use Rattle.plan_check.specs.Verdicts.{IsJudged};
-ghost use Rattle.irt_main.specs.Lines.{reject_line};
 
 use crate::files::{device_file, load_bundle, load_plant};
 use crate::line::{accept_line, reject_line};
 use irt_base::blocks::Bundle;
 use irt_base::list::Items;
-use irt_base::memory::NoMemory;
 use irt_base::plants::{Device, Plant};
 use irt_io::shelf::Shelf;
 use irt_steps::line::line_stop;
 use irt_steps::stop::{Cause, Stop};
+use plan_check::check::judge_plan;
 use plan_rules::place::Reject;
 use std::alloc::Global;
 
@@ -99,24 +99,16 @@ fn verdict(alloc: Global, plant: &Plant, bundles: &[Bundle]) -> Result<Vec<u8>, 
     ensures step { Decides (λ v. v.items) (verdict_steps plant.now bundles.now) result }
     ensures calm { IfErr result IsNoFault }
 {
-    match judge(alloc, plant, bundles)? {
+    match judge_plan(alloc, plant, bundles)? {
         None => Ok(accept_line(alloc)?),
         Some(reject) => Err(rejected(alloc, plant, reject)),
     }
 }
 
-/// The first rule that fails, or none.
-fn judge(alloc: Global, plant: &Plant, bundles: &[Bundle]) -> Result<Option<Reject>, NoMemory>
-    requires { IsPlan plant.now bundles.now }
-    ensures { IfOk result (IsJudged plant.now bundles.now) }
-{
-    plan_check::check::judge_plan(alloc, plant, bundles)
-}
-
 /// What a rule that fails ends the command with.
 fn rejected(alloc: Global, plant: &Plant, reject: Reject) -> Stop
     ensures calm { IsNoFault result }
-    ensures ending { IsEnding result 8 (reject_line reject.rule (name_of plant.now reject.place.device.0) reject.place.port reject.place.frame reject.place.other) }
+    ensures ending { IsEnding result 8 (rejected plant.now reject).text }
 {
     let device = match plant.devices.get(usize::from(reject.place.device.0)) {
         Some(device) => device.name.as_slice(),

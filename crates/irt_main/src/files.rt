@@ -9,7 +9,8 @@ ghost use Rattle.irt_io.specs.Fault.{IsLater};
 ghost use Rattle.plant_rules.specs.Meets.{MeetsRules, IsNameByte};
 ghost use Rattle.irt_topo.specs.Reading.{plant_of};
 ghost use Rattle.irt_steps.specs.Follow.{Follows, Answers, HasCause};
-ghost use Rattle.irt_main.specs.Commands.{plant_answer, plant_steps, bundle_answer, bundle_steps, device_file_of};
+ghost use Rattle.irt_main.specs.DeviceFiles.{bundle_answer, bundle_steps, device_file_of};
+ghost use Rattle.irt_main.specs.PlantFile.{plant_answer, plant_steps};
 
 use crate::line::{malformed_line, not_toml_line, rule_line};
 use irt_base::blocks::Bundle;

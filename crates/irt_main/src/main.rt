@@ -6,7 +6,6 @@ mod files;
 mod line;
 mod show;
 mod top;
-mod words;
 
 use crate::top::irt_calm;
 use irt_io::folder::FolderShelf;

@@ -3,7 +3,7 @@
 ghost use Rattle.std.specs.Prelude.{◌≡◌};
 ghost use Rattle.irt_io.specs.Fault.{IsLater};
 ghost use Rattle.irt_steps.specs.Follow.{Follows, HasCause};
-ghost use Rattle.irt_main.specs.Commands.{show_steps};
+ghost use Rattle.irt_main.specs.Show.{show_steps};
 
 use crate::files::load_bundle;
 use irt_io::shelf::Shelf;

@@ -139,21 +139,10 @@ fn malformed_files(rt: HostRuntime) -> Result<(), Fail> {
     ] {
         expect_check(&rt, alloc, &changed(at, byte), 7, text.as_bytes())?;
     }
-    Ok(())
-}
-
-#[test]
-fn bytes_after_the_file(rt: HostRuntime) -> Result<(), Fail> {
-    let alloc = rt.alloc();
     let mut long = Vec::from_slice(alloc, &FILE_A)?;
     long.push(0)?;
-    expect_check(
-        &rt,
-        alloc,
-        long.as_slice(),
-        7,
-        b"malformed a.ird 252 Trailing\n",
-    )?;
+    let trailing = b"malformed a.ird 252 Trailing\n";
+    expect_check(&rt, alloc, long.as_slice(), 7, trailing)?;
     Ok(())
 }
 
@@ -192,50 +181,27 @@ fn refusals(rt: HostRuntime) -> Result<(), Fail> {
             text.as_bytes(),
         )?;
     }
-    Ok(())
-}
-
-#[test]
-fn long_plants(rt: HostRuntime) -> Result<(), Fail> {
-    let alloc = rt.alloc();
-    let long = vec![in alloc; b' '; PLANT_FILE + 1]?;
-    let shelf = shelf(alloc, long.as_slice(), &FILE_A, &[])?;
-    expect(
-        &rt,
-        alloc,
-        &["check", "pair.toml"],
-        shelf,
-        4,
-        b"too long pair.toml\n",
-    )?;
+    let spaces = vec![in alloc; b' '; PLANT_FILE + 1]?;
+    let shelf = shelf(alloc, spaces.as_slice(), &FILE_A, &[])?;
+    let long = b"too long pair.toml\n";
+    expect(&rt, alloc, &["check", "pair.toml"], shelf, 4, long)?;
     Ok(())
 }
 
 #[test]
 fn words_and_absent_files(rt: HostRuntime) -> Result<(), Fail> {
     let alloc = rt.alloc();
-    let shelf = MemShelf::new(alloc, &[])?;
-    expect(
-        &rt,
-        alloc,
-        &["check", "pair.toml"],
-        shelf,
-        3,
-        b"absent pair.toml\n",
-    )?;
-    let shelf = MemShelf::new(alloc, &[])?;
-    expect(&rt, alloc, &[], shelf, 1, b"usage\n")?;
-    let shelf = MemShelf::new(alloc, &[])?;
-    expect(&rt, alloc, &["check", "-p"], shelf, 1, b"usage\n")?;
-    let shelf = MemShelf::new(alloc, &[])?;
-    expect(
-        &rt,
-        alloc,
-        &["check", "pair.toml", "x"],
-        shelf,
-        1,
-        b"usage\n",
-    )?;
+    for (texts, status, text) in [
+        (["check", "pair.toml"].as_slice(), 3, "absent pair.toml\n"),
+        (&[], 1, "usage\n"),
+        (&["check", "-p"], 1, "usage\n"),
+        (&["check", "--", "-p"], 3, "absent -p\n"),
+        (&["check", "pair.toml", "x"], 1, "usage\n"),
+        (&["plan", "pair.toml"], 1, "usage\n"),
+    ] {
+        let shelf = MemShelf::new(alloc, &[])?;
+        expect(&rt, alloc, texts, shelf, status, text.as_bytes())?;
+    }
     Ok(())
 }
 

@@ -219,3 +219,23 @@ unloaded_next (loads at most more) files now name limit e (inl (same, bound, kep
 unloaded_next (loads at most more) files now name limit e (inr (bytes, held, next)) why = inl (bytes, held, unloaded_next (more bytes) files now name limit e next why)
 unloaded_next (stores at bytes more) files now name limit e (between, stored, next) why = (between, stored, unloaded_next more between now name limit e next why)
 unloaded_next (asks P more) files now name limit e (b, holds, next) why = (b, holds, unloaded_next (more b) files now name limit e next why)
+
+-- ---- steps behind steps behind steps
+
+pub loads_in : {A B C : Type 0} (steps : Steps A) (f : A → Steps B) (g : B → Steps C) (files now : Option Files) (name : List ℕ) (limit : ℕ) →
+    LoadsNext (after (after steps f) g) files name limit now → LoadsNext (after steps (λ x. after (f x) g)) files name limit now
+loads_in (gives x) f g files now name limit next = next
+loads_in (ends e) f g files now name limit next = next
+loads_in (loads at most more) f g files now name limit (inl here) = inl here
+loads_in (loads at most more) f g files now name limit (inr (bytes, held, next)) = inr (bytes, held, loads_in (more bytes) f g files now name limit next)
+loads_in (stores at bytes more) f g files now name limit (between, stored, next) = (between, stored, loads_in more f g between now name limit next)
+loads_in (asks P more) f g files now name limit (b, holds, next) = (b, holds, loads_in (more b) f g files now name limit next)
+
+pub comes_out : {A B C : Type 0} (steps : Steps A) (f : A → Steps B) (g : B → Steps C) (old new : Option Files) (result : Result C Ending) →
+    Comes (after steps (λ x. after (f x) g)) old new result → Comes (after (after steps f) g) old new result
+comes_out (gives x) f g old new result comes = comes
+comes_out (ends e) f g old new result comes = comes
+comes_out (loads at most more) f g old new result (inl (bytes, held, comes)) = inl (bytes, held, comes_out (more bytes) f g old new result comes)
+comes_out (loads at most more) f g old new result (inr (e, why, is, kept)) = inr (e, why, is, kept)
+comes_out (stores at bytes more) f g old new result (between, stored, comes) = (between, stored, comes_out more f g between new result comes)
+comes_out (asks P more) f g old new result (b, holds, comes) = (b, holds, comes_out (more b) f g old new result comes)

@@ -2,7 +2,9 @@ use Rattle.std.proofs.lemmas.Result.{err_from_is_err_and}
 use Rattle.std.specs.Global.{Vec}
 use Rattle.std.specs.Prelude.{ℕ}
 use Rattle.irt_steps.proofs.StepLemmas.{follow_on, follow_stop}
-use Rattle.irt_main.specs.Commands.{plant_steps, blocks_steps}
+use Rattle.irt_main.specs.Check.{blocks_steps}
+use Rattle.irt_main.specs.PlantFile.{plant_steps}
+use Rattle.irt_main.proofs.CheckLemmas.{cause_after}
 use Rattle.irt_main.proofs.check.check.Goals as goal
 
 pub returns-in_err-plant-clause-step : goal.returns-in_err-plant-clause-step
@@ -13,3 +15,6 @@ returns-in_err-plant-clause-step g c =
 pub returns-clause-step : goal.returns-clause-step
 returns-clause-step g c =
     follow_on (λ p. p) (λ (v : Vec ℕ). v.items) (plant_steps c.args.name.now) blocks_steps _ _ _ c.in_ok-plant.plant _ c.in_ok-plant.ensures.step c.check_blocks.ensures.step
+
+pub returns-clause-cause : goal.returns-clause-cause
+returns-clause-cause g c = cause_after _ _ _ c.check_blocks.result c.in_ok-plant.ensures.later c.check_blocks.ensures.cause

@@ -4,7 +4,8 @@ use Rattle.std.specs.Global.{Vec}
 use Rattle.std.specs.Prelude.{ℕ}
 use Rattle.irt_steps.proofs.StepLemmas.{follow_on, follow_stop}
 use Rattle.irt_main.proofs.CheckLemmas.{from_none, follow_judged}
-use Rattle.irt_main.specs.Commands.{bundles_steps, verdict_steps}
+use Rattle.irt_main.specs.Check.{verdict_steps}
+use Rattle.irt_main.specs.DeviceFiles.{bundles_steps}
 use Rattle.irt_main.proofs.check.check_blocks.Goals as goal
 
 pub returns-in_err-bundles-clause-step : goal.returns-in_err-bundles-clause-step

@@ -1,37 +1,30 @@
 use Rattle.irt_steps.proofs.EndedLemmas.{finishes}
+use Rattle.irt_words.specs.Asked.{texts_of}
 use Rattle.irt_main.specs.Commands.{steps_of}
-use Rattle.irt_main.specs.Words.{texts_of}
-use Rattle.irt_main.proofs.ReasonLemmas.{caused}
-use Rattle.irt_main.proofs.OneLemmas.{exact}
-use Rattle.irt_main.proofs.RightLemmas.{complete}
+use Rattle.irt_main.proofs.CallLemmas.{tells_cause, has_every_cause, is_safe, tells_usage, takes_stated, tells_faults, has_status}
 use Rattle.irt_main.proofs.top.irt_calm.Goals as goal
 
-pub returns-clause-outcome : goal.returns-clause-outcome
-returns-clause-outcome g c = finishes (steps_of (texts_of c.args.words.now)) _ _ _ _ _ _ _ _ c.run-ended.ensures.step c.run-ended.ensures.cause c.finish.ensures
+pub returns-clause-ends : goal.returns-clause-ends
+returns-clause-ends g c =
+    finishes (steps_of (texts_of c.args.words.now)) _ _ _ _ _ _ _ _ c.run-ended.ensures.step c.run-ended.ensures.cause c.finish.ensures
 
-pub returns-clause-done : goal.returns-clause-done
-returns-clause-done g c = λ is. caused (texts_of c.args.words.now) _ _ _ _ _ _ _ 0 c.accepted_plans_are_safe.ensures (returns-clause-outcome g c) is (λ e. absurd cc) (λ e. absurd cc) (λ e. absurd cc)
-
-pub returns-clause-usage : goal.returns-clause-usage
-returns-clause-usage g c = λ is. caused (texts_of c.args.words.now) _ _ _ _ _ _ _ 1 c.accepted_plans_are_safe.ensures (returns-clause-outcome g c) is (λ e. absurd cc) (λ e. absurd cc) (λ e. absurd cc)
-
-pub returns-clause-absent : goal.returns-clause-absent
-returns-clause-absent g c = λ is. caused (texts_of c.args.words.now) _ _ _ _ _ _ _ 3 c.accepted_plans_are_safe.ensures (returns-clause-outcome g c) is (λ e. absurd cc) (λ e. absurd cc) (λ e. absurd cc)
-
-pub returns-clause-too_long : goal.returns-clause-too_long
-returns-clause-too_long g c = λ is. caused (texts_of c.args.words.now) _ _ _ _ _ _ _ 4 c.accepted_plans_are_safe.ensures (returns-clause-outcome g c) is (λ e. absurd cc) (λ e. absurd cc) (λ e. absurd cc)
-
-pub returns-clause-plant : goal.returns-clause-plant
-returns-clause-plant g c = λ is. caused (texts_of c.args.words.now) _ _ _ _ _ _ _ 5 c.accepted_plans_are_safe.ensures (returns-clause-outcome g c) is (λ e. absurd cc) (λ e. absurd cc) (λ e. absurd cc)
-
-pub returns-clause-malformed : goal.returns-clause-malformed
-returns-clause-malformed g c = λ is. caused (texts_of c.args.words.now) _ _ _ _ _ _ _ 7 c.accepted_plans_are_safe.ensures (returns-clause-outcome g c) is (λ e. absurd cc) (λ e. absurd cc) (λ e. absurd cc)
-
-pub returns-clause-reject : goal.returns-clause-reject
-returns-clause-reject g c = λ is. caused (texts_of c.args.words.now) _ _ _ _ _ _ _ 8 c.accepted_plans_are_safe.ensures (returns-clause-outcome g c) is (λ e. absurd cc) (λ e. absurd cc) (λ e. absurd cc)
-
-pub returns-clause-complete : goal.returns-clause-complete
-returns-clause-complete g c = λ calm quiet. complete (texts_of c.args.words.now) _ _ _ _ _ _ _ (returns-clause-outcome g c) calm quiet
+pub returns-clause-cause : goal.returns-clause-cause
+returns-clause-cause g c = tells_cause _ _ (returns-clause-ends g c)
 
 pub returns-clause-exact : goal.returns-clause-exact
-returns-clause-exact g c = exact (texts_of c.args.words.now) _ _ _ _ _ _ _ (returns-clause-outcome g c)
+returns-clause-exact g c = has_every_cause _ _ (returns-clause-ends g c)
+
+pub returns-clause-safe : goal.returns-clause-safe
+returns-clause-safe g c = is_safe c.accepted_plans_are_safe.ensures _ _ (returns-clause-cause g c)
+
+pub returns-clause-usage : goal.returns-clause-usage
+returns-clause-usage g c = tells_usage _ _ (returns-clause-ends g c)
+
+pub returns-clause-stated : goal.returns-clause-stated
+returns-clause-stated g c = takes_stated c.stated_words_are_read.ensures _ _ (returns-clause-ends g c)
+
+pub returns-clause-faults : goal.returns-clause-faults
+returns-clause-faults g c = tells_faults _ _ (returns-clause-ends g c)
+
+pub returns-clause-status : goal.returns-clause-status
+returns-clause-status g c = has_status _ _ (returns-clause-cause g c)

@@ -1,0 +1,131 @@
+-- From a cause to where the steps come by it.
+use Rattle.std.proofs.Common.{◌≡◌, ◌⊎◌, inl, inr, ℕ, List, [], ◌∷◌, ◌++◌, Option, Some, None, Result, Ok, Err, refl, sym, subst, arith}
+use Rattle.irt_base.specs.declared.limits.TheConstants.{PLANT_FILE, DEVICE_FILE}
+use Rattle.irt_base.specs.declared.blocks.Bundle.{Bundle}
+use Rattle.irt_base.specs.declared.plants.Device.{Device}
+use Rattle.irt_base.specs.declared.plants.Plant.{Plant}
+use Rattle.irt_block.specs.declared.fault.BlockFault.{BlockFault}
+use Rattle.irt_io.specs.Files.{Files}
+use Rattle.irt_show.specs.Show.{bundle_text}
+use Rattle.irt_steps.specs.Ended.{ended, IsOutcome}
+use Rattle.irt_steps.specs.Lines.{absent_line, long_line}
+use Rattle.irt_steps.specs.Steps.{Ending, ending, Steps, gives, after, judged, missing, too_long, Comes, LoadsNext}
+use Rattle.irt_steps.proofs.StepLemmas.{comes_on, comes_end, comes_out, loads_in, unloaded_next}
+use Rattle.irt_topo.specs.Reading.{plant_of}
+use Rattle.irt_words.specs.Asked.{asked_of}
+use Rattle.irt_words.specs.Commands.{Command, plan, check, show, sync, run, run_world, gen, free}
+use Rattle.plan_check.specs.Verdicts.{IsJudged}
+use Rattle.plan_rules.specs.declared.place.Reject.{Reject}
+use Rattle.irt_main.specs.Cause as causes
+use Rattle.irt_main.specs.Cause.{IsCauseOf}
+use Rattle.irt_main.specs.Check.{verdict_answer, verdict_steps, blocks_steps, check_steps, ArePlanFiles}
+use Rattle.irt_main.specs.Commands.{asked_steps, steps_of, IsNothing}
+use Rattle.irt_main.specs.DeviceFiles.{bundle_steps, device_file_of, device_steps, bundles_steps, IsMalformed}
+use Rattle.irt_main.specs.Lines.{usage_line, refusal_line, malformed_line}
+use Rattle.irt_main.specs.PlantFile.{plant_answer, plant_steps}
+use Rattle.irt_main.specs.Show.{show_steps}
+use Rattle.irt_main.proofs.FileLemmas.{plant_comes, refusal_comes, bundle_comes, bundles_come, after_judged, malformed_first}
+
+abbrev Answer : Type 0
+Answer = Result (List ℕ) Ending
+
+-- ---- words that ask for nothing
+
+pub nothing_steps : (asked : Option Command) → IsNothing asked → asked_steps asked ≡ asked_steps None
+nothing_steps None none = refl
+nothing_steps (Some (check p)) none = absurd (none tt)
+nothing_steps (Some (show f)) none = absurd (none tt)
+nothing_steps (Some (plan p)) none = refl
+nothing_steps (Some (sync p c s)) none = refl
+nothing_steps (Some (run p c s)) none = refl
+nothing_steps (Some (run_world p c w)) none = refl
+nothing_steps (Some (gen s d f n)) none = refl
+nothing_steps (Some (free p c s)) none = refl
+
+-- ---- a malformed file
+
+abbrev bad_end : List ℕ → BlockFault → Answer
+bad_end name fault = Err (ending 7 (malformed_line name fault))
+
+no_load : (answer : Answer) (files now : Option Files) (name : List ℕ) → ¬ LoadsNext (judged answer) files name DEVICE_FILE now
+no_load (Ok x) files now name next = next
+no_load (Err e) files now name next = next
+
+bundles_malformed : (plant : Plant) (devices : List Device) (front : List Bundle) (files now : Option Files) (name : List ℕ) (fault : BlockFault) →
+    LoadsNext (after (bundles_steps devices front) (verdict_steps plant)) files name DEVICE_FILE now → IsMalformed now name fault →
+    Comes (after (bundles_steps devices front) (verdict_steps plant)) files now (bad_end name fault)
+bundles_malformed plant [] front files now name fault (found, holds, next) bad = absurd (no_load (verdict_answer plant found) files now name next)
+bundles_malformed plant (d ∷ ds) front files now name fault next bad =
+    let device : Bundle → Steps (List Bundle) = λ b. gives (front ++ b ∷ []) in
+    let rest : List Bundle → Steps (List ℕ) = λ bs. after (bundles_steps ds bs) (verdict_steps plant) in
+    let later : Bundle → Steps (List ℕ) = λ b. after (device b) rest in
+    let outer = loads_in (device_steps d front) (bundles_steps ds) (verdict_steps plant) files now name DEVICE_FILE next in
+    let inner = loads_in (bundle_steps (device_file_of d.name)) device rest files now name DEVICE_FILE outer in
+    let first = malformed_first (device_file_of d.name) later files now name fault inner bad (λ b more. bundles_malformed plant ds (front ++ b ∷ []) files now name fault more bad) in
+    comes_out (device_steps d front) (bundles_steps ds) (verdict_steps plant) files now (bad_end name fault)
+    (comes_out (bundle_steps (device_file_of d.name)) device rest files now (bad_end name fault) first)
+
+limits_differ : DEVICE_FILE ≡ PLANT_FILE → ⊥
+limits_differ is = omega (arith, is)
+
+asked_malformed : (asked : Option Command) (files now : Option Files) (name : List ℕ) (fault : BlockFault) → LoadsNext (asked_steps asked) files name DEVICE_FILE now → IsMalformed now name fault →
+    Comes (asked_steps asked) files now (bad_end name fault)
+asked_malformed (Some (check p)) files now name fault (inl (same, limit, kept)) bad = absurd (limits_differ limit)
+asked_malformed (Some (check p)) files now name fault (inr (bytes, held, next)) bad =
+    inl (
+      bytes,
+      held,
+      after_judged (plant_answer (plant_of bytes)) blocks_steps files now name DEVICE_FILE (ending 7 (malformed_line name fault)) next
+          (λ plant more. bundles_malformed plant plant.devices [] files now name fault more bad),
+    )
+asked_malformed (Some (show f)) files now name fault next bad = malformed_first f (λ b. gives (bundle_text b)) files now name fault next bad (λ b more. absurd more)
+asked_malformed None files now name fault next bad = absurd next
+asked_malformed (Some (plan p)) files now name fault next bad = absurd next
+asked_malformed (Some (sync p c s)) files now name fault next bad = absurd next
+asked_malformed (Some (run p c s)) files now name fault next bad = absurd next
+asked_malformed (Some (run_world p c w)) files now name fault next bad = absurd next
+asked_malformed (Some (gen s d f n)) files now name fault next bad = absurd next
+asked_malformed (Some (free p c s)) files now name fault next bad = absurd next
+
+-- ---- a verdict
+
+verdict_comes : (plant : Plant) (bundles : List Bundle) (found : Option Reject) (files : Option Files) → IsJudged plant bundles found →
+    Comes (verdict_steps plant bundles) files files (verdict_answer plant found)
+verdict_comes plant bundles None files holds = (None, holds, (refl, refl))
+verdict_comes plant bundles (Some r) files holds = (Some r, holds, (refl, refl))
+
+check_comes : (files : Option Files) (name : List ℕ) (plant : Plant) (bundles : List Bundle) (found : Option Reject) → ArePlanFiles files name plant bundles → IsJudged plant bundles found →
+    Comes (check_steps name) files files (verdict_answer plant found)
+check_comes files name plant bundles found are holds =
+    comes_on (plant_steps name) blocks_steps files files files plant (verdict_answer plant found) (plant_comes files name plant are.plant_file)
+    (comes_on (bundles_steps plant.devices []) (verdict_steps plant) files files files bundles (verdict_answer plant found)
+    (bundles_come plant.devices [] bundles files are.device_files) (verdict_comes plant bundles found files holds))
+
+-- ---- every cause
+
+abbrev outcome : (files : Option Files) (words : List (List ℕ)) (answer : Answer) → Comes (steps_of words) files files answer → IsOutcome (steps_of words) files files (ended answer)
+outcome files words answer comes = record { answer = answer; comes = comes; is = refl }
+
+asked_comes : (files : Option Files) (words : List (List ℕ)) (command : Command) (answer : Answer) → asked_of words ≡ Some command → Comes (asked_steps (Some command)) files files answer →
+    IsOutcome (steps_of words) files files (ended answer)
+asked_comes files words command answer is comes = outcome files words answer (subst (λ a. Comes (asked_steps a) files files answer) (sym is) comes)
+
+pub cause_outcome : (files : Option Files) (words : List (List ℕ)) (e : Ending) → IsCauseOf files words e → IsOutcome (steps_of words) files files e
+cause_outcome files words _ (causes.usage none) =
+    outcome files words (Err (ending 1 usage_line)) (subst (λ s. Comes s files files (Err (ending 1 usage_line))) (sym (nothing_steps (asked_of words) none)) (refl, refl))
+cause_outcome files words _ (causes.absent name limit next none) =
+    outcome files words (Err (ending 3 (absent_line name))) (unloaded_next (steps_of words) files files name limit (ending 3 (absent_line name)) next (missing none))
+cause_outcome files words _ (causes.too_long name limit next over) =
+    outcome files words (Err (ending 4 (long_line name))) (unloaded_next (steps_of words) files files name limit (ending 4 (long_line name)) next (too_long over))
+cause_outcome files words _ (causes.no_plant name refusal is file) =
+    asked_comes files words (check name) (Err (ending 5 (refusal_line refusal))) is
+    (comes_end (plant_steps name) blocks_steps files files (ending 5 (refusal_line refusal)) (refusal_comes files name refusal file))
+cause_outcome files words _ (causes.malformed name fault next bad) =
+    outcome files words (bad_end name fault) (asked_malformed (asked_of words) files files name fault next bad)
+cause_outcome files words _ (causes.rejects name plant reject is file) =
+    asked_comes files words (check name) (verdict_answer plant (Some reject)) is (check_comes files name plant file.bundles (Some reject) file.are file.rejects)
+cause_outcome files words _ (causes.accepts name is file) =
+    asked_comes files words (check name) (verdict_answer file.plant None) is (check_comes files name file.plant file.bundles None file.are file.accepted)
+cause_outcome files words _ (causes.shows name bundle is file) =
+    asked_comes files words (show name) (Ok (bundle_text bundle)) is
+    (comes_on (bundle_steps name) (λ b. gives (bundle_text b)) files files files bundle (Ok (bundle_text bundle)) (bundle_comes files name bundle file) (refl, refl))
