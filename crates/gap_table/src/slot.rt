@@ -1,11 +1,11 @@
 //! Slots of a link direction.
 
-ghost use Rattle.std.specs.Prelude.{◌≡◌, ◌+◌, ◌≤◌, ◌↔◌, IsTrue};
-ghost use Rattle.gap_table.specs.Slots.{IsSlot, slack, EndsBefore};
+ghost use Rattle.std.specs.Prelude.{◌≡◌, ◌+◌, ◌^◌, ◌<◌, ◌↔◌, IsTrue};
+ghost use Rattle.gap_table.specs.Slots.{slack, EndsBefore};
 
 use irt_base::numbers::DevId;
 
-/// Greatest end of a slot, and greatest guard, in ns.
+/// Greatest end of a slot in a table, and greatest guard, in ns.
 pub const MAX_END: u32 = 0x4000_0000;
 
 /// When a frame may be on a link direction, in the local time of its anchor.
@@ -27,8 +27,7 @@ pub(crate) fn slack(guard: u32, a: &Slot, b: &Slot) -> u32
 }
 
 pub(crate) fn ends_before(guard: u32, a: &Slot, b: &Slot) -> bool
-    requires short { guard ≤ MAX_END }
-    requires valid { IsSlot a.now }
+    requires { a.now.end + guard < 2 ^ 32 }
     ensures { IsTrue result ↔ EndsBefore guard a.now b.now }
 {
     a.end + slack(guard, a, b) <= b.lo

@@ -1,6 +1,6 @@
 //! The slots of a link direction in one phase, in the order of time.
 
-ghost use Rattle.std.specs.Prelude.{◌≡◌, ◌+◌, ◌≤◌, ◌<◌, [], length, All, OnOk, OnErr, IfNone, IfSome};
+ghost use Rattle.std.specs.Prelude.{◌≡◌, ◌+◌, ◌^◌, ◌≤◌, ◌<◌, [], length, All, OnOk, OnErr, IfNone, IfSome};
 ghost use Rattle.std.specs.List.{AllWithin};
 ghost use Rattle.gap_table.specs.Slots.{IsSlot, IsClear, AreOrdered, IsInserted, IsBlocker};
 ghost use Rattle.gap_table.specs.declared.slot.Slot.{Slot};
@@ -53,8 +53,9 @@ impl GapTable {
     /// When the direction is free behind a slot that blocks the candidate, in ns. `None` comes exactly
     /// where none does. It takes the time of a search by halves, and of the slots within the guard.
     pub fn blocker(&self, guard: u32, candidate: &Slot) -> Option<u32>
-        requires short { guard ≤ MAX_END }
-        requires valid { IsSlot candidate.now }
+        requires guard { guard ≤ MAX_END }
+        requires proper { candidate.now.lo < candidate.now.end }
+        requires small { candidate.now.end + guard < 2 ^ 32 }
         ensures clear { IfNone result (All (IsClear guard candidate.now) self.now) }
         ensures blocked { IfSome result (IsBlocker guard candidate.now self.now) }
     {
@@ -77,7 +78,7 @@ fn count_before(slots: &[Slot], time: u32) -> usize
 // How many slots have ended a guard before a time.
 fn count_ended(slots: &[Slot], guard: u32, time: u32) -> usize
     requires ordered { AreOrdered slots.now }
-    requires short { guard ≤ MAX_END }
+    requires guard { guard ≤ MAX_END }
     ensures inside { result ≤ length slots.now }
     ensures ended { AllWithin (λ s. s.end + guard ≤ time) slots.now 0 result }
 {
@@ -89,8 +90,9 @@ fn blocker_from(slots: &[Slot], first: usize, guard: u32, candidate: &Slot) -> O
     requires ordered { AreOrdered slots.now }
     requires inside { first ≤ length slots.now }
     requires before { AllWithin (IsClear guard candidate.now) slots.now 0 first }
-    requires short { guard ≤ MAX_END }
-    requires valid { IsSlot candidate.now }
+    requires guard { guard ≤ MAX_END }
+    requires proper { candidate.now.lo < candidate.now.end }
+    requires small { candidate.now.end + guard < 2 ^ 32 }
     ensures clear { IfNone result (All (IsClear guard candidate.now) slots.now) }
     ensures blocked { IfSome result (IsBlocker guard candidate.now slots.now) }
 {
