@@ -1,13 +1,11 @@
 -- Two plans of one shape: what hangs on an anchor has room in both at the same offsets, and where the offsets above
 -- agree so do the ready times.
 use Rattle.std.proofs.Common.{◌≡◌, ℕ, zero, suc, ◌+◌, ◌≤◌, inl, inr, List, [], ◌∷◌, Option, Some, None, cond, Bool, true, false, sym, ◌∙◌, ap, subst, arith, refl}
-use Rattle.std.specs.Prelude.{slice_index_or, slice_set, option_map, IsBitSet}
+use Rattle.std.specs.Prelude.{slice_index_or, slice_set, option_map}
 use Rattle.std.proofs.lemmas.Option.{same_Some}
 use Rattle.irt_base.specs.Cycle.{SharesCycle, wire_time}
 use Rattle.irt_base.specs.declared.blocks.Entry.{Entry}
-use Rattle.irt_base.specs.declared.numbers.DevId.{DevId}
 use Rattle.irt_base.specs.declared.numbers.FrameId.{FrameId}
-use Rattle.irt_base.specs.declared.numbers.PortNo.{PortNo}
 use Rattle.irt_base.specs.declared.plants.Demand.{Demand}
 use Rattle.irt_base.specs.declared.plants.Plant.{Plant}
 use Rattle.irt_route.specs.Trees.{Parents}
@@ -15,10 +13,9 @@ use Rattle.plan_rules.specs.Way.{Setup, entry_at, IsAnchor}
 use Rattle.plan_rules.specs.SendWindow.{SendWindow, HasWindow, at_anchor, behind, slack_time}
 use Rattle.plan_rules.specs.Frames.{IsForwarded, IsSending}
 use Rattle.fit_rules.specs.declared.frame_plan.FramePlan.{FramePlan}
-use Rattle.fit_rules.specs.Shape.{alone, moved, entry_of, with_offset, IsOn, IsEntryOf, HasShape}
+use Rattle.fit_rules.specs.Shape.{alone, moved, entry_of, with_offset, IsEntryOf, HasShape}
 use Rattle.fit_rules.specs.Fit.{IsUsing, IsClearAt, HasRoom, IsReady}
 use Rattle.fit_rules.specs.Moves.{IsAlike, IsShifted, offset_at, AgreeAbove}
-use Rattle.fit_rules.proofs.Bytes.{same_bytes}
 use Rattle.fit_rules.proofs.Entries.{entry_in, no_entry, entry_from, entry_stands}
 use Rattle.fit_rules.proofs.Ways.{same_way}
 use Rattle.fit_rules.proofs.Sliding.{Twin, HasTwins, HasOffset, way_of, ways_of, way_leaves, way_parent, alike_self, flipped, slides, moved_offset}

@@ -1,10 +1,9 @@
 -- What is clear and when an anchor is ready, in times after the offsets of anchors.
-use Rattle.std.proofs.Common.{◌≡◌, ℕ, ◌+◌, ◌≤◌, inl, inr, List, Option, Some, None, sym, ◌∙◌, ap, subst, arith, refl}
-use Rattle.std.specs.Prelude.{◌↔◌, ◌⊎◌, option_map, Contains, slice_get}
+use Rattle.std.proofs.Common.{◌≡◌, ℕ, ◌+◌, ◌≤◌, inl, inr, List, Some, sym, ◌∙◌, ap, subst, arith, refl}
+use Rattle.std.specs.Prelude.{◌↔◌, option_map}
 use Rattle.std.proofs.lemmas.Option.{same_Some}
 use Rattle.irt_base.specs.Cycle.{SharesCycle, wire_time, guard_time}
 use Rattle.irt_base.specs.declared.blocks.Entry.{Entry}
-use Rattle.irt_base.specs.declared.numbers.FrameId.{FrameId}
 use Rattle.irt_base.specs.declared.plants.Demand.{Demand}
 use Rattle.irt_base.specs.declared.plants.Plant.{Plant}
 use Rattle.irt_route.specs.Trees.{Parents}
@@ -12,10 +11,10 @@ use Rattle.plan_rules.specs.Frames.{IsForwarded}
 use Rattle.plan_rules.specs.SendWindow.{SendWindow, slack_time}
 use Rattle.plan_rules.specs.Way.{IsAnchor}
 use Rattle.fit_rules.specs.declared.frame_plan.FramePlan.{FramePlan}
-use Rattle.fit_rules.specs.Delays.{IsAtZero, IsDelayed, HasRoomAt, AreRoomyAt, IsReadyAfter}
+use Rattle.fit_rules.specs.Delays.{IsAtZero, AreRoomyAt, IsReadyAfter}
 use Rattle.fit_rules.specs.Shape.{alone, entry_of, moved, HasShape}
-use Rattle.fit_rules.specs.Fit.{IsUsing, IsClearAt, HasRoom, IsReady, end_time}
-use Rattle.fit_rules.specs.Moves.{SharesWay, IsShifted, offset_at}
+use Rattle.fit_rules.specs.Fit.{IsUsing, IsClearAt, IsReady}
+use Rattle.fit_rules.specs.Moves.{offset_at}
 use Rattle.fit_rules.proofs.Alike.{anchor_entry}
 use Rattle.fit_rules.proofs.Entries.{entry_from}
 use Rattle.fit_rules.proofs.Shifts.{moved_here, shape_moved, sendings_shift, arrivals_shift}
@@ -48,7 +47,7 @@ module _ (plant : Plant) (parents : Parents) (demand : Demand) (r p : ℕ) (base
     roomy : IsClearAt plant placed plan anchor x → AreRoomyAt plant placed demand ratio phase base anchor x
     roomy clear device port least greatest delayed =
         let (g, v, way, using, shifted) = sendings_shift plant parents demand r p base zeroth ratio phase (moved plan anchor x) now device port 0 x delayed.e delayed.w
-            delayed.sends (zero_at device port delayed.e delayed.w delayed.sends) (ap (offset_at (moved plan anchor x)) delayed.hangs ∙ offset_now) in
+        delayed.sends (zero_at device port delayed.e delayed.w delayed.sends) (ap (offset_at (moved plan anchor x)) delayed.hangs ∙ offset_now) in
         let hangs = shifted.anchor ∙ delayed.hangs in
         let room = clear device port g v using hangs in
         let entry = now.each device g (entry_from plant (moved plan anchor x).entries device plan.frame.0 g using.stands) in
@@ -58,7 +57,7 @@ module _ (plant : Plant) (parents : Parents) (demand : Demand) (r p : ℕ) (base
           red = ends_as v.hi (x + greatest) _ _ _ _ plant.red_max hi wire (ap (slack_time plant.window device) hangs) room.red;
           apart = λ other f u among uses shared.
               let shares : SharesCycle g.ratio g.phase f.ratio f.phase =
-                  subst (λ n. SharesCycle n g.phase f.ratio f.phase) (sym entry.ratio_is) (subst (λ n. SharesCycle ratio n f.ratio f.phase) (sym entry.phase_is) shared) in
+              subst (λ n. SharesCycle n g.phase f.ratio f.phase) (sym entry.ratio_is) (subst (λ n. SharesCycle ratio n f.ratio f.phase) (sym entry.phase_is) shared) in
               elim (room.apart other f u among uses shares) [
                 | inl before ↦ inl (ends_as v.hi (x + greatest) _ _ _ _ u.lo hi wire (ap (λ a. slack_time plant.window a u.anchor) hangs) before)
                 | inr after ↦ inr (begins_as u.hi (wire_time f.data_length) _ _ v.lo (x + least) (ap (slack_time plant.window u.anchor) hangs) lo after)
@@ -83,7 +82,7 @@ module _ (plant : Plant) (parents : Parents) (demand : Demand) (r p : ℕ) (base
           red = ends_as (x + w.hi) v.hi _ _ _ _ plant.red_max hi wire (ap (slack_time plant.window device) home) room.red;
           apart = λ other f u among uses shared.
               let shares : SharesCycle ratio phase f.ratio f.phase =
-                  subst (λ n. SharesCycle n phase f.ratio f.phase) entry.ratio_is (subst (λ n. SharesCycle g.ratio n f.ratio f.phase) entry.phase_is shared) in
+              subst (λ n. SharesCycle n phase f.ratio f.phase) entry.ratio_is (subst (λ n. SharesCycle g.ratio n f.ratio f.phase) entry.phase_is shared) in
               elim (room.apart other f u among uses shares) [
                 | inl before ↦ inl (ends_as (x + w.hi) v.hi _ _ _ _ u.lo hi wire (ap (λ a. slack_time plant.window a u.anchor) home) before)
                 | inr after ↦ inr (begins_as u.hi (wire_time f.data_length) _ _ (x + w.lo) v.lo (ap (slack_time plant.window u.anchor) home) lo after)
@@ -99,9 +98,9 @@ module _ (plant : Plant) (parents : Parents) (demand : Demand) (r p : ℕ) (base
   ready_in_numbers ratio phase plan shape device anchor gap y own is after offset =
       let from = after.comes.comes.sent.0 in
       let zero_there = zero_at after.comes.parent after.comes.port from after.w
-          (record { stands = after.comes.comes.sent.1; leaves = after.comes.comes.sent.2; sends = after.comes.sends }) in
+      (record { stands = after.comes.comes.sent.1; leaves = after.comes.comes.sent.2; sends = after.comes.sends }) in
       let (g, v, way, comes, shifted) = arrivals_shift plant parents demand r p base zeroth ratio phase plan shape device after.hop 0 y after.e after.w after.comes zero_there
-          (ap (offset_at plan) after.hangs ∙ offset) in
+      (ap (offset_at plan) after.hangs ∙ offset) in
       let same : g ≡ own = same_Some g own (sym (entry_from plant plan.entries device plan.frame.0 g comes.stands) ∙ is) in
       let hi : v.hi + 0 ≡ after.w.hi + y = shifted.hi in
       inr (record {

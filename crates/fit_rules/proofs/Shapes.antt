@@ -16,6 +16,7 @@ use Rattle.irt_base.specs.declared.plants.Plant.{Plant}
 use Rattle.irt_route.specs.Trees.{Parents, parent_at}
 use Rattle.plant_rules.specs.Meets.{IsDevice}
 use Rattle.fit_rules.specs.declared.frame_plan.FramePlan.{FramePlan}
+use Rattle.fit_rules.specs.Delays.{IsAtZero}
 use Rattle.fit_rules.specs.Shape.{entry_of, IsRatioFor, IsOn, IsSentBy, IsReceivedFrom, IsEntryOf, HasShape}
 use Rattle.fit_rules.proofs.Bytes.{one_at, set_at}
 use Rattle.fit_rules.proofs.Entries.{no_entry}
@@ -175,7 +176,7 @@ made_plan plant parents demand ratio phase =
     record { frame = demand.frame; entries = listed (made_at plant parents demand ratio phase) 0 (length plant.devices) }
 
 abbrev pub ShapedPlan : Plant → Parents → Demand → ℕ → ℕ → Type 0
-ShapedPlan plant parents demand ratio phase = (plan : FramePlan) × HasShape plant parents demand ratio phase plan
+ShapedPlan plant parents demand ratio phase = (plan : FramePlan) × HasShape plant parents demand ratio phase plan × IsAtZero plan
 
 abbrev Fits : Plant → Demand → ℕ → Type 0
 Fits plant demand ratio = ratio * cycle_time plant.factor ≤ demand.update
@@ -356,4 +357,5 @@ module _ (plant : Plant) (parents : Parents) (demand : Demand) (routed : IsRoute
               (e, listed_at entry 0 devices device (on_within device on) ∙ ap entry (zero-add device) ∙ is);
           idle = λ device e is idle. (there device e is).1;
         },
+        λ device e is. (there device e is).1,
       )

@@ -1,25 +1,22 @@
 -- Two plans of a demand, in any ratios and phases: their windows differ by their anchors' offsets.
-use Rattle.std.proofs.Common.{◌≡◌, ◌≢◌, ℕ, zero, suc, ◌+◌, ◌<◌, ◌≤◌, inl, inr, List, [], ◌∷◌, Option, Some, None, length, sym, ◌∙◌, ap, subst, arith, refl}
-use Rattle.std.specs.Prelude.{slice_index_or, option_map, IsBitSet}
+use Rattle.std.proofs.Common.{◌≡◌, ◌≢◌, ℕ, ◌<◌, inl, inr, Some, None, length, sym, ◌∙◌, ap, subst, refl}
+use Rattle.std.specs.Prelude.{option_map}
 use Rattle.std.proofs.lemmas.Bool.{cases_eq, cases_lt}
 use Rattle.std.proofs.lemmas.List.{length-set, get_or-set_same, get_or-set_other, get_or_past}
 use Rattle.std.proofs.lemmas.Option.{same_Some}
 use Rattle.irt_base.specs.declared.blocks.Entry.{Entry}
-use Rattle.irt_base.specs.declared.numbers.DevId.{DevId}
 use Rattle.irt_base.specs.declared.numbers.FrameId.{FrameId}
-use Rattle.irt_base.specs.declared.numbers.PortNo.{PortNo}
 use Rattle.irt_base.specs.declared.plants.Demand.{Demand}
 use Rattle.irt_base.specs.declared.plants.Plant.{Plant}
 use Rattle.irt_route.specs.Trees.{Parents}
-use Rattle.plan_rules.specs.Frames.{IsForwarded, IsSending}
+use Rattle.plan_rules.specs.Frames.{IsForwarded}
 use Rattle.plan_rules.specs.SendWindow.{SendWindow, HasWindow}
-use Rattle.plan_rules.specs.Way.{entry_at, Leaves, IsAnchor}
+use Rattle.plan_rules.specs.Way.{entry_at, IsAnchor}
 use Rattle.fit_rules.specs.declared.frame_plan.FramePlan.{FramePlan}
 use Rattle.fit_rules.specs.Shape.{alone, entry_of, moved, with_offset, IsOn, IsEntryOf, HasShape}
 use Rattle.fit_rules.specs.Fit.{IsUsing}
 use Rattle.fit_rules.specs.Moves.{SharesWay, IsShifted, offset_at}
 use Rattle.fit_rules.proofs.Alike.{stands_alone}
-use Rattle.fit_rules.proofs.Bytes.{same_bytes}
 use Rattle.fit_rules.proofs.Entries.{no_entry, entry_from}
 use Rattle.fit_rules.proofs.Sliding.{HasWays, HasOffset, way_leaves, way_parent, slides}
 use Rattle.fit_rules.proofs.Ways.{same_way}

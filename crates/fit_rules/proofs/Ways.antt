@@ -1,5 +1,5 @@
 -- A demand's entries at one device take one way, in any ratios and phases.
-use Rattle.std.proofs.Common.{◌≡◌, ℕ, zero, suc, inl, inr, Some, sym, ◌∙◌, ap, arith}
+use Rattle.std.proofs.Common.{◌≡◌, ℕ, zero, suc, inl, inr, sym, ◌∙◌, ap, arith}
 use Rattle.std.specs.Prelude.{IsBitSet}
 use Rattle.std.proofs.lemmas.Option.{same_Some}
 use Rattle.irt_base.specs.declared.blocks.Entry.{Entry}

@@ -33,7 +33,8 @@ use plan_rules::ways::ways_are_one;
 pub fn offsets_jump()
     ensures moves { (plant : Plant) (plan : FramePlan) (anchor x y device port : ℕ) (e : Entry) (w : SendWindow) →
         IsUsing plant (moved plan anchor x) device port e w → w.anchor ≡ anchor →
-        (g : Entry) × (v : SendWindow) × IsAlike e g × IsUsing plant (moved plan anchor y) device port g v × IsShifted x y w v }
+        (g : Entry) × (v : SendWindow) × IsAlike e g × IsUsing plant (moved plan anchor y) device port g v ×
+        IsShifted x y w v }
     ensures blocked { (plant : Plant) (placed : List FramePlan) (plan : FramePlan) (anchor x y device port : ℕ) →
         (e : Entry) (w : SendWindow) → IsUsing plant (moved plan anchor x) device port e w → w.anchor ≡ anchor →
         (other : FramePlan) (f : Entry) (v : SendWindow) → Contains placed other → IsUsing plant other device port f v →
@@ -78,12 +79,15 @@ pub fn shapes_shift()
 /// clear, and so long after which other offset it is ready.
 pub fn fits_in_numbers()
     ensures clear { (plant : Plant) (parents : Parents) (demand : Demand) →
-        (base_ratio base_phase : ℕ) (base : FramePlan) → HasShape plant parents demand base_ratio base_phase base → IsAtZero base →
+        (base_ratio base_phase : ℕ) (base : FramePlan) →
+        HasShape plant parents demand base_ratio base_phase base → IsAtZero base →
         (ratio phase : ℕ) (plan : FramePlan) → HasShape plant parents demand ratio phase plan →
-        (anchor x : ℕ) (e : Entry) → entry_of plan anchor ≡ Some e → IsAnchor (alone plant plan) anchor e → (placed : List FramePlan) →
+        (anchor x : ℕ) (e : Entry) → entry_of plan anchor ≡ Some e → IsAnchor (alone plant plan) anchor e →
+        (placed : List FramePlan) →
         IsClearAt plant placed plan anchor x ↔ AreRoomyAt plant placed demand ratio phase base anchor x }
     ensures ready { (plant : Plant) (parents : Parents) (demand : Demand) →
-        (base_ratio base_phase : ℕ) (base : FramePlan) → HasShape plant parents demand base_ratio base_phase base → IsAtZero base →
+        (base_ratio base_phase : ℕ) (base : FramePlan) →
+        HasShape plant parents demand base_ratio base_phase base → IsAtZero base →
         (ratio phase : ℕ) (plan : FramePlan) → HasShape plant parents demand ratio phase plan →
         (device anchor gap y : ℕ) (e : Entry) → entry_of plan device ≡ Some e → IsReadyAfter plant base device anchor gap →
         offset_at plan anchor ≡ Some y → IsReady plant plan device e (y + gap) }
@@ -101,7 +105,8 @@ pub fn fits_in_numbers()
 /// if nothing from the ready time on is clear.
 pub fn shapes_are_one()
     ensures clear { (plant : Plant) (parents : Parents) (demand : Demand) (ratio phase : ℕ) (placed : List FramePlan) →
-        (plan other : FramePlan) → HasShape plant parents demand ratio phase plan → HasShape plant parents demand ratio phase other →
+        (plan other : FramePlan) → HasShape plant parents demand ratio phase plan →
+        HasShape plant parents demand ratio phase other →
         (device offset : ℕ) → IsClearAt plant placed plan device offset → IsClearAt plant placed other device offset }
     ensures fitted { (plant : Plant) (routes : RouteTables) (index : ℕ) (demand : Demand) → IsRoutesOf plant routes →
         IsDemandAt plant index demand → (placed : List FramePlan) (ratio phase : ℕ) (plan other : FramePlan) →
@@ -127,8 +132,8 @@ pub fn shapes_are_one()
 pub fn placements_are_one()
     ensures ratio { (plant : Plant) (demand : Demand) (ratio other : ℕ) → IsRatioFor plant demand ratio →
         IsRatioFor plant demand other → ratio ≡ other }
-    ensures end { (plant : Plant) (plan : FramePlan) (end other : ℕ) → IsLastEnd plant plan end → IsLastEnd plant plan other →
-        end ≡ other }
+    ensures end { (plant : Plant) (plan : FramePlan) (end other : ℕ) → IsLastEnd plant plan end →
+        IsLastEnd plant plan other → end ≡ other }
     ensures in_phase { (plant : Plant) (routes : RouteTables) (index : ℕ) (demand : Demand) → IsRoutesOf plant routes →
         IsDemandAt plant index demand → (placed : List FramePlan) (phase : ℕ) (plan other : FramePlan) →
         IsInPhase plant (parents_of routes index) placed demand phase plan →
@@ -175,13 +180,13 @@ pub fn first_fit_is_one()
     chains_of_trees();
 }
 
-/// There are plans to choose from: each demand has a ratio, and a shape in any ratio and phase.
+/// There are plans to choose from: each demand has a ratio, and in any ratio and phase a shape with all offsets 0.
 pub fn shapes_exist()
     ensures ratios { (plant : Plant) (routes : RouteTables) (index : ℕ) (demand : Demand) → IsRoutesOf plant routes →
         IsDemandAt plant index demand → (ratio : ℕ) × IsRatioFor plant demand ratio }
     ensures shapes { (plant : Plant) (routes : RouteTables) (index : ℕ) (demand : Demand) → IsRoutesOf plant routes →
         IsDemandAt plant index demand → (ratio phase : ℕ) →
-        (plan : FramePlan) × HasShape plant (parents_of routes index) demand ratio phase plan }
+        (plan : FramePlan) × HasShape plant (parents_of routes index) demand ratio phase plan × IsAtZero plan }
 {
     ways_are_one();
     parents_of_trees();
