@@ -42,6 +42,7 @@ later gap s = record { lo = s.lo + gap; end = s.end + gap; anchor = s.anchor }
 pub record IsBlocker (guard : ℕ) (candidate : Slot) (slots : List Slot) (free : ℕ) : Type 0 where
   pub slot : Slot
   pub has : Contains slots slot
+  pub valid : IsSlot slot
   pub starts : slot.lo < candidate.end + slack guard candidate slot
   pub is : free ≡ slot.end + slack guard slot candidate
   pub rises : candidate.lo < free

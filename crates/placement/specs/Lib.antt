@@ -1,0 +1,5 @@
+pub mod Layouts
+pub mod Tables
+pub mod Placings
+pub mod Searches
+pub mod Records

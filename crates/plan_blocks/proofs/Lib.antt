@@ -1,0 +1,5 @@
+pub mod Lists
+pub mod Merged
+pub mod Numbering
+pub mod Ports
+pub mod Raising
