@@ -33,7 +33,6 @@ fn stamps_that_are_refused(rt: HostRuntime) {
         ([0, 0, 0, 2000002], Err(LineFault::TooLong)),
         ([5, 0, 0, 4], Err(LineFault::TimesOutOfOrder)),
         ([0, 5, 4, 100], Err(LineFault::TimesOutOfOrder)),
-        ([8, 2, 10018, 10012], Err(LineFault::TimesOutOfOrder)),
         ([7, u64::MAX, u64::MAX, 7], Ok(0)),
     ] {
         let mut line = LineDelay::new();
