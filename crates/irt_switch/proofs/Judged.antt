@@ -25,7 +25,7 @@ use Rattle.irt_switch.proofs.Finding.{AreAscending, ascending, tail_up}
 use Rattle.irt_switch.proofs.Members.{found_in}
 
 -- what stands in the list is what its own FrameID finds
-find_own : (xs : List Entry) (e : Entry) → AreAscending xs → Contains xs e → find (λ (x : Entry). x.frame.0 == e.frame.0) xs ≡ Some e
+pub find_own : (xs : List Entry) (e : Entry) → AreAscending xs → Contains xs e → find (λ (x : Entry). x.frame.0 == e.frame.0) xs ≡ Some e
 find_own [] e up (k, below, is) = absurd (omega arith)
 find_own (x ∷ xs) e up (zero, below, is) =
     ap (λ (b : Bool). if b then Some x else find (λ (y : Entry). y.frame.0 == e.frame.0) xs) (eq-eqb x.frame.0 e.frame.0 (ap (λ (y : Entry). y.frame.0) is)) ∙ ap Some is

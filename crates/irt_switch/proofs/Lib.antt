@@ -6,3 +6,4 @@ pub mod Members
 pub mod Ordered
 pub mod Played
 pub mod Receiving
+pub mod Started

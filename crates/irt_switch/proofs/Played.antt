@@ -32,12 +32,12 @@ use Rattle.irt_switch.proofs.Judged.{entry_for, receiving_from, red_test, late_m
 same_local : (origin : ℤ) (local other start : ℤ) → (origin +ℤ local) ≡ start → (origin +ℤ other) ≡ start → local ≡ other
 same_local origin local other start first second = omega (arith, ints)
 
--- a frame's entry at a device stands in the device's own block
-own_entry : (plant : Plant) (bundles : List Bundle) (device frame : ℕ) (b : Bundle) (e : Entry) → slice_get bundles device ≡ Some b →
-    entry_at (setup_of plant bundles) device frame ≡ Some e → find (λ (x : Entry). x.frame.0 == frame) b.frames.entries ≡ Some e
-own_entry plant bundles device frame b e held at =
+-- the entry of a frame at a device is the one in the device's own block
+pub block_entry : (plant : Plant) (bundles : List Bundle) (device frame : ℕ) (b : Bundle) → slice_get bundles device ≡ Some b →
+    entry_at (setup_of plant bundles) device frame ≡ find (λ (x : Entry). x.frame.0 == frame) b.frames.entries
+block_entry plant bundles device frame b held =
     let block = slice_get-map (λ (x : Bundle). x.frames) bundles device ∙ ap (option_map (λ (x : Bundle). x.frames)) held in
-    sym (ap (option_and_then (λ (x : FrameBlock). find (λ (y : Entry). y.frame.0 == frame) x.entries)) block) ∙ at
+    ap (option_and_then (λ (x : FrameBlock). find (λ (y : Entry). y.frame.0 == frame) x.entries)) block
 
 -- the entry is found, and passes the tests
 record Passes (bundle : Bundle) (k : ℕ) (r : Reception) (e : Entry) : Type 0 where
@@ -62,7 +62,7 @@ passes : (plant : Plant) (bundles : List Bundle) (row : WorldRow) (from : Entry)
 passes plant bundles row from a b r t received small held told =
     let same : t.bundle ≡ b = same_Some t.bundle b (sym t.held ∙ held) in
     let local : t.local ≡ r.local = same_local (pos (a.cycle * cycle_time plant.factor) +ℤ row.error a.device) t.local r.local a.start t.local_time told.local in
-    let found = own_entry plant bundles a.device a.frame b t.e held t.stands in
+    let found = sym (block_entry plant bundles a.device a.frame b held) ∙ t.stands in
     let test = receiving_from a.cycle (length told.fields.csdu) t.e (omega arith) (t.length ∙ sym told.count) t.due in
     let Opens : Bundle → ℤ → Type 0 = λ x l. pos t.rx.red ≤ℤ (l +ℤ pos (guard_time x.sync.window)) in
     let Closes : ℤ → Type 0 = λ l. (l +ℤ pos (wire_time t.e.data_length)) ≤ℤ pos t.rx.orange in
@@ -123,7 +123,7 @@ not_absolute plant device b has is absolute =
 
 -- ---- the start
 
-by_offset_time : (origin offset : ℕ) (error start : ℤ) → start ≡ (pos (origin + offset) +ℤ error) → start ≡ (pos origin +ℤ error +ℤ pos offset)
+pub by_offset_time : (origin offset : ℕ) (error start : ℤ) → start ≡ (pos (origin + offset) +ℤ error) → start ≡ (pos origin +ℤ error +ℤ pos offset)
 by_offset_time origin offset error start is = omega (arith, ints)
 
 by_bridge_time : (origin : ℤ) (local came start : ℤ) (bridge row_bridge : ℕ) → (origin +ℤ local) ≡ came → start ≡ (came +ℤ pos row_bridge) → bridge ≡ row_bridge →
