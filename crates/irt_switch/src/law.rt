@@ -31,13 +31,14 @@ pub fn answers_are_by_cause()
 /// What a device in step releases is what it starts itself, then and by those ports.
 pub fn accepted_plans_are_switched()
     ensures sent_on { (plant : Plant) (bundles : List Bundle) → IsPlan plant bundles → IsAccepted plant bundles →
-        (world : List WorldRow) → All (IsInRange (setup_of plant bundles)) world → (row : WorldRow) (from : Entry) (a : Arrival) →
-        slice_get world a.cycle ≡ Some row → IsArrival (setup_of plant bundles) row from a → IsInStep plant row a.device →
-        (bundle : Bundle) (r : Reception) (bridge : ℕ) → slice_get bundles a.device ≡ Some bundle → IsToldOf plant row from a r →
-        TakesBridge (setup_of plant bundles) row a bridge →
+        (world : List WorldRow) → All (IsInRange (setup_of plant bundles)) world →
+        (row : WorldRow) (from : Entry) (a : Arrival) → slice_get world a.cycle ≡ Some row →
+        IsArrival (setup_of plant bundles) row from a → IsInStep plant row a.device →
+        (bundle : Bundle) (r : Reception) (bridge : ℕ) → slice_get bundles a.device ≡ Some bundle →
+        IsToldOf plant row from a r → TakesBridge (setup_of plant bundles) row a bridge →
         IsPlayed (setup_of plant bundles) row a (action_of bundle a.cycle true r bridge) }
-    ensures started { (plant : Plant) (bundles : List Bundle) → IsPlan plant bundles → (row : WorldRow) (k device port : ℕ)
-        (bundle : Bundle) (o : Outgoing) → slice_get bundles device ≡ Some bundle → IsInStep plant row device →
+    ensures started { (plant : Plant) (bundles : List Bundle) → IsPlan plant bundles →
+        (row : WorldRow) (k device port : ℕ) (bundle : Bundle) (o : Outgoing) → slice_get bundles device ≡ Some bundle → IsInStep plant row device →
         IsReleased bundle k o → IsBitSet o.ports port →
         IsSentAt (setup_of plant bundles) row k device port o.frame.0 (true_time plant row k device o.at) }
     ensures all_started { (plant : Plant) (bundles : List Bundle) (row : WorldRow) (k device port frame : ℕ) (start : ℤ)

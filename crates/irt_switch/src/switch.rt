@@ -161,7 +161,8 @@ impl Switch {
 
     /// The entry by which the device receives such bytes in the cycle.
     fn receiving(&self, frame: &[u8]) -> Option<Entry>
-        ensures entry { result ≡ option_and_then (receiving_of self.now.bundle self.now.cycle) (frame_of (fields_at frame.now)) }
+        ensures entry { result ≡
+            option_and_then (receiving_of self.now.bundle self.now.cycle) (frame_of (fields_at frame.now)) }
         ensures valid { IfSome result IsEntry }
     {
         let Ok(read) = read_rtc3(frame) else {
@@ -213,7 +214,8 @@ impl Switch {
         requires { HasPort self.old.bundle port.0 }
         ensures full { (result ≡ Offered.Full) ↔ (length (queue_of class (gate_of self.old port.0)) ≡ QUEUE_ROOM) }
         ensures refused { result ≡ Offered.Full → self.new ≡ self.old }
-        ensures queued { result ≡ Offered.Queued → self.new ≡ with_gate self.old port.0 (with_last class parcel (gate_of self.old port.0)) }
+        ensures queued { result ≡ Offered.Queued →
+            self.new ≡ with_gate self.old port.0 (with_last class parcel (gate_of self.old port.0)) }
     {
         let gate = &mut self.gates[usize::from(port.0) - 1];
         gate.offer(class, parcel)
@@ -244,7 +246,8 @@ fn is_receiving(entry: &Entry, count: usize, k: u32) -> bool
 
 /// Whether what begins to arrive then, and takes so long, is whole in the red period, which begins a guard early.
 fn is_in_red(rx: Period, guard: u32, wire: u32, local: Ns) -> bool
-    ensures answer { result ≡ (int_le (pos rx.red) (local +ℤ pos guard) && int_le (local +ℤ pos wire) (pos rx.orange)) }
+    ensures answer { result ≡
+        (int_le (pos rx.red) (local +ℤ pos guard) && int_le (local +ℤ pos wire) (pos rx.orange)) }
     ensures early { IsTrue result → local ≤ℤ pos (2 ^ 32) }
 {
     let opens = i64::from(rx.red) - i64::from(guard);

@@ -15,11 +15,15 @@ ghost use Rattle.period_gate.specs.declared.parcels.Sent.{Sent};
 /// Once a front of the list was given, `next` gives the first of the rest. Each parcel starts at its class's begin
 /// or later, after those before it have ended, and ends by the limit. Of each class a front of those that wait is sent.
 pub fn cycle_law()
-    ensures given { (gate : Waiting) (sent : List Sent) (last : Waiting) → Gives gate 0 sent last → IsSentList gate sent }
-    ensures left { (gate : Waiting) (sent : List Sent) (last : Waiting) → Gives gate 0 sent last → last ≡ left_of gate sent }
-    ensures gives { (gate : Waiting) (sent : List Sent) → IsSentList gate sent → Gives gate 0 sent (left_of gate sent) }
+    ensures given { (gate : Waiting) (sent : List Sent) (last : Waiting) →
+        Gives gate 0 sent last → IsSentList gate sent }
+    ensures left { (gate : Waiting) (sent : List Sent) (last : Waiting) →
+        Gives gate 0 sent last → last ≡ left_of gate sent }
+    ensures gives { (gate : Waiting) (sent : List Sent) → IsSentList gate sent →
+        Gives gate 0 sent (left_of gate sent) }
     ensures some { (gate : Waiting) → IsSentList gate (sent_of gate) }
-    ensures only { (gate : Waiting) (sent other : List Sent) → IsSentList gate sent → IsSentList gate other → sent ≡ other }
+    ensures only { (gate : Waiting) (sent other : List Sent) → IsSentList gate sent → IsSentList gate other →
+        sent ≡ other }
     ensures rest { (gate : Waiting) (done rest : List Sent) → IsSentList gate (done ++ rest) →
         next_sent (left_of gate done) (end_from 0 done) ≡ slice_get rest 0 }
     ensures order { (gate : Waiting) (sent : List Sent) → IsSentList gate sent → AreInOrder gate sent }
