@@ -1,5 +1,5 @@
 -- What the status of a call tells.
-use Rattle.std.proofs.Common.{◌≡◌, ◌≢◌, ◌⊎◌, inl, inr, ℕ, suc, List, [], ◌∷◌, length, Option, Some, None, refl, sym, ◌∙◌, ap, subst}
+use Rattle.std.proofs.Common.{◌≡◌, ◌≢◌, ◌⊎◌, inl, inr, ℕ, suc, List, [], ◌∷◌, length, Option, Some, refl, sym, ◌∙◌, ap, subst}
 use Rattle.std.specs.List.{All}
 use Rattle.std.proofs.lemmas.List.Elements.{All-cons, All-nil}
 use Rattle.irt_base.specs.Valid.{IsBundle}
@@ -7,8 +7,7 @@ use Rattle.irt_base.specs.declared.blocks.Bundle.{Bundle}
 use Rattle.irt_base.specs.declared.plants.Device.{Device}
 use Rattle.irt_base.specs.declared.plants.Plant.{Plant}
 use Rattle.irt_io.specs.Files.{Files}
-use Rattle.irt_io.specs.Taken.{Appends}
-use Rattle.irt_steps.specs.Ended.{Counts, Rose, EndsAs, as_stated, shelf_failed, sink_failed, no_memory, no_text}
+use Rattle.irt_steps.specs.Ended.{Rose, EndsAs, as_stated, shelf_failed, sink_failed, no_memory, no_text}
 use Rattle.irt_steps.specs.Steps.{Ending, ending}
 use Rattle.irt_steps.proofs.EndedLemmas.{exact_of, ends_plainly}
 use Rattle.irt_words.specs.Asked.{asked_of, words_of, IsStated}
@@ -17,11 +16,11 @@ use Rattle.plan_rules.specs.Expected.{IsSafe}
 use Rattle.plan_rules.specs.Plan.{IsPlan}
 use Rattle.plan_rules.specs.Places.{IsAccepted}
 use Rattle.irt_main.specs.Call as calls
-use Rattle.irt_main.specs.Call.{Call, FollowsSteps, IsFaulty, IsCaused, TellsCause, HasEveryCause, IsSafeWhereAccepted, TellsUsage, TakesStated, TellsFaults, IsStatus}
+use Rattle.irt_main.specs.Call.{Call, FollowsSteps, IsFaulty, TellsCause, HasEveryCause, IsSafeWhereAccepted, TellsUsage, TakesStated, TellsFaults, IsStatus}
 use Rattle.irt_main.specs.Cause as causes
 use Rattle.irt_main.specs.Cause.{IsCauseOf}
 use Rattle.irt_main.specs.Check.{ArePlanFiles, IsAcceptedPlan, IsSafePlan}
-use Rattle.irt_main.specs.Commands.{asked_steps, steps_of, IsNothing, IsUsage}
+use Rattle.irt_main.specs.Commands.{steps_of, IsNothing, IsUsage}
 use Rattle.irt_main.specs.DeviceFiles.{AreBundleFiles}
 use Rattle.irt_main.specs.Lines.{usage_line}
 use Rattle.irt_main.proofs.CauseLemmas.{outcome_cause}

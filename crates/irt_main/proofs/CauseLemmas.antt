@@ -1,11 +1,11 @@
 -- From where steps came to the cause of it.
-use Rattle.std.proofs.Common.{◌≡◌, ◌⊎◌, inl, inr, ℕ, List, [], Option, Some, None, Result, Ok, refl, sym, ◌∙◌, ap, subst}
+use Rattle.std.proofs.Common.{◌≡◌, inl, inr, ℕ, List, [], Option, Some, None, Result, Ok, refl, sym, ap, subst}
 use Rattle.irt_base.specs.declared.limits.TheConstants.{PLANT_FILE, DEVICE_FILE}
 use Rattle.irt_base.specs.declared.blocks.Bundle.{Bundle}
 use Rattle.irt_base.specs.declared.plants.Plant.{Plant}
 use Rattle.irt_io.specs.Files.{Files}
 use Rattle.irt_show.specs.Show.{bundle_text}
-use Rattle.irt_steps.specs.Steps.{Ending, ending, gives, after, missing, too_long, IsUnloaded, Comes, LoadsNext}
+use Rattle.irt_steps.specs.Steps.{Ending, gives, missing, too_long, IsUnloaded, Comes, LoadsNext}
 use Rattle.irt_steps.specs.Ended.{ended, IsOutcome}
 use Rattle.irt_steps.proofs.StepLemmas.{comes_by, loads_first, loads_later}
 use Rattle.irt_words.specs.Asked.{asked_of}

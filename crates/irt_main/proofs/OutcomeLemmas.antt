@@ -1,5 +1,5 @@
 -- From a cause to where the steps come by it.
-use Rattle.std.proofs.Common.{◌≡◌, ◌⊎◌, inl, inr, ℕ, List, [], ◌∷◌, ◌++◌, Option, Some, None, Result, Ok, Err, refl, sym, subst, arith}
+use Rattle.std.proofs.Common.{◌≡◌, inl, inr, ℕ, List, [], ◌∷◌, ◌++◌, Option, Some, None, Result, Ok, Err, refl, sym, subst, arith}
 use Rattle.irt_base.specs.declared.limits.TheConstants.{PLANT_FILE, DEVICE_FILE}
 use Rattle.irt_base.specs.declared.blocks.Bundle.{Bundle}
 use Rattle.irt_base.specs.declared.plants.Device.{Device}
@@ -23,7 +23,6 @@ use Rattle.irt_main.specs.Commands.{asked_steps, steps_of, IsNothing}
 use Rattle.irt_main.specs.DeviceFiles.{bundle_steps, device_file_of, device_steps, bundles_steps, IsMalformed}
 use Rattle.irt_main.specs.Lines.{usage_line, refusal_line, malformed_line}
 use Rattle.irt_main.specs.PlantFile.{plant_answer, plant_steps}
-use Rattle.irt_main.specs.Show.{show_steps}
 use Rattle.irt_main.proofs.FileLemmas.{plant_comes, refusal_comes, bundle_comes, bundles_come, after_judged, malformed_first}
 
 abbrev Answer : Type 0

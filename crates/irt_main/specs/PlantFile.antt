@@ -1,5 +1,5 @@
 -- A plant's file: the steps that read it, what it states, and why it is refused.
-use Rattle.std.specs.Prelude.{◌≡◌, ℕ, List, Option, Result, Ok, Err}
+use Rattle.std.specs.Prelude.{ℕ, List, Option, Result, Ok, Err}
 use Rattle.irt_base.specs.declared.limits.TheConstants.{PLANT_FILE}
 use Rattle.irt_base.specs.declared.plants.Plant.{Plant}
 use Rattle.irt_io.specs.Files.{Files}

@@ -1,14 +1,13 @@
 -- From the steps of a command to the way in which a call ends.
-use Rattle.std.proofs.Common.{◌≡◌, ◌⊎◌, ℕ, List, Option, Some, None, Result, Ok, Err, inl, inr, refl, sym, ◌∙◌, ap, subst}
+use Rattle.std.proofs.Common.{◌≡◌, ◌⊎◌, ℕ, List, Option, Some, Result, Ok, Err, inl, inr, refl, sym, ◌∙◌, ap, subst}
 use Rattle.std.specs.Global.{Vec}
 use Rattle.irt_io.specs.Files.{Files}
-use Rattle.irt_io.specs.Taken.{Appends}
 use Rattle.irt_steps.specs.declared.stop.Stop.{Stop}
 use Rattle.irt_steps.specs.declared.stop.Stop.TheVariants as stops
 use Rattle.irt_steps.specs.Steps.{Ending, ending, Steps, ends, IsOneWay}
 use Rattle.irt_steps.specs.Follow.{status_of, Follows, HasCause}
 use Rattle.irt_steps.proofs.OneWay.{comes_one}
-use Rattle.irt_steps.specs.Ended.{ended, Counts, Rose, IsOutcome, IsShelfFault, EndsAs, as_stated, shelf_failed, sink_failed, no_memory, no_text, PrintsAs, whole, failed, no_room, FinishesAs}
+use Rattle.irt_steps.specs.Ended.{ended, Counts, IsOutcome, IsShelfFault, EndsAs, as_stated, shelf_failed, sink_failed, no_memory, no_text, PrintsAs, whole, failed, no_room, FinishesAs}
 
 -- a text of the outcome was printed with its status
 stated_prints : (steps : Steps (List ℕ)) (shelf sink : Counts) (old new : Option Files) (before after : Option (List ℕ)) (o : Ending) (status : ℕ) → IsOutcome steps old new o →
