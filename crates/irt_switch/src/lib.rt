@@ -16,5 +16,3 @@ pub mod switch;
 pub use action::{Action, Cause, Outgoing, PortSet};
 pub use switch::Switch;
 
-#[cfg(test)]
-mod tests;
