@@ -1,0 +1,7 @@
+mod InOrder
+mod InRange
+mod Made
+mod Numbers
+mod Places
+mod SeededFits
+mod WorkedExample

@@ -1,0 +1,3 @@
+pub mod Forwardings
+pub mod Rows
+pub mod Seeded
