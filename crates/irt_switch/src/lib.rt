@@ -15,4 +15,3 @@ pub mod switch;
 
 pub use action::{Action, Cause, Outgoing, PortSet};
 pub use switch::Switch;
-
