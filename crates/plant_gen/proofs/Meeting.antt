@@ -20,7 +20,7 @@ use Rattle.irt_base.specs.declared.plants.Device.{Device}
 use Rattle.irt_base.specs.declared.plants.Demand.{Demand}
 use Rattle.irt_base.specs.declared.plants.Plant.{Plant}
 use Rattle.plant_rules.specs.Meets.{IsName, IsNameByte, IsDevice, IsLink, IsDemand, MeetsRules, FitsCycle, same_device}
-use Rattle.plant_rules.specs.Words.{is_within, same_name, has_port, share_port, same_frame, same_app_device, words_of, words_where, consumes, provides}
+use Rattle.plant_rules.specs.Words.{is_within, same_name, has_port, share_port, same_frame, same_app_device, demand_words, words_where, consumes, provides}
 use Rattle.plant_gen.specs.Generated.{generated_device, generated_link, generated_provider, generated_demand, generated_update, generated_plant}
 use Rattle.seed_draws.specs.Draws.{draw_of}
 
@@ -213,9 +213,9 @@ counted false w small = omega arith
 few_words : (test : Demand → Bool) (seed n a k : ℕ) → words_where test (map (generated_demand seed n) (range_with_len a k)) ≤ 8 * k
 few_words test seed n a zero = omega arith
 few_words test seed n a (suc k) =
-    let first = counted (test (generated_demand seed n a)) (words_of (generated_demand seed n a)) (eight (draw_of seed 3 a 2)) in
+    let first = counted (test (generated_demand seed n a)) (demand_words (generated_demand seed n a)) (eight (draw_of seed 3 a 2)) in
     let rest = few_words test seed n (a + 1) k in
-    let both = sum_by-cons (λ d. cond (test d) (words_of d) 0) (generated_demand seed n a) (map (generated_demand seed n) (range_with_len (a + 1) k)) in
+    let both = sum_by-cons (λ d. cond (test d) (demand_words d) 0) (generated_demand seed n a) (map (generated_demand seed n) (range_with_len (a + 1) k)) in
     (rw both (sum_small _ _ k first rest)) where
       sum_small : (x y k : ℕ) → x ≤ 8 → y ≤ 8 * k → x + y ≤ 8 * suc k
       sum_small x y k one more = omega arith
