@@ -124,3 +124,93 @@ fn words_that_ask_for_nothing(rt: HostRuntime) -> Result<(), Fail> {
     }
     Ok(())
 }
+
+// Twenty lists of words, drawn by a program of its own, which also says what they ask for.
+#[test]
+fn random_words(rt: HostRuntime) -> Result<(), Fail> {
+    let alloc = rt.alloc();
+    for (text, wanted) in [
+        ("show plan", Some(Asked::Show { file: "plan" })),
+        ("free p.toml 10001 18446744073709551615", None),
+        ("sync p.toml p 007", None),
+        (
+            "run p.toml --world show 12",
+            Some(Asked::RunWorld {
+                plant: "p.toml",
+                cycles: 12,
+                world: "show",
+            }),
+        ),
+        ("sync p.toml -5 7", None),
+        (
+            "run p.toml 1 0",
+            Some(Asked::Run {
+                plant: "p.toml",
+                cycles: 1,
+                seed: 0,
+            }),
+        ),
+        ("5 free p.toml 0", None),
+        (
+            "free p.toml 1 41",
+            Some(Asked::Free {
+                plant: "p.toml",
+                cycles: 1,
+                seed: 41,
+            }),
+        ),
+        (
+            "run p.toml 12 --world -",
+            Some(Asked::RunWorld {
+                plant: "p.toml",
+                cycles: 12,
+                world: "-",
+            }),
+        ),
+        ("plan", None),
+        ("run p.toml 10001 0 --world", None),
+        (
+            "gen 7 2 16 n",
+            Some(Asked::Gen {
+                seed: 7,
+                devices: 2,
+                frames: 16,
+                name: "n",
+            }),
+        ),
+        ("-5 p.toml", None),
+        ("plan p.toml", Some(Asked::Plan { plant: "p.toml" })),
+        (
+            "gen 18446744073709551615 12 0 n",
+            Some(Asked::Gen {
+                seed: u64::MAX,
+                devices: 12,
+                frames: 0,
+                name: "n",
+            }),
+        ),
+        ("run --world - p.toml 10001 18446744073709551615", None),
+        ("plan -- p.toml", Some(Asked::Plan { plant: "p.toml" })),
+        (
+            "run p.toml --world=w.txt 5",
+            Some(Asked::RunWorld {
+                plant: "p.toml",
+                cycles: 5,
+                world: "w.txt",
+            }),
+        ),
+        (
+            "free p.toml 1 0",
+            Some(Asked::Free {
+                plant: "p.toml",
+                cycles: 1,
+                seed: 0,
+            }),
+        ),
+        ("p.toml run 10000", None),
+    ] {
+        let words = words(alloc, text)?;
+        assert_eq!(rt; read_words(alloc, words.as_slice())?, wanted, "{text}");
+    }
+    Ok(())
+}

@@ -2,6 +2,7 @@
 
 use crate::print::print_plant;
 use irt_topo::read::read_plant;
+use plant_gen::gen_plant;
 use std::alloc::Global;
 use std::test::Fail;
 
@@ -116,5 +117,19 @@ fn worked_plants_come_back(rt: HostRuntime) -> Result<(), Fail> {
     assert!(rt; comes_back(alloc, PAIR.as_bytes()));
     assert!(rt; comes_back(alloc, LINE.as_bytes()));
     assert!(rt; comes_back(alloc, DRIVES.as_bytes()));
+    Ok(())
+}
+
+#[test]
+fn generated_plants_come_back(rt: HostRuntime) -> Result<(), Fail> {
+    let alloc = rt.alloc();
+    for (seed, devices, frames) in [(0, 2, 0), (7, 2, 1), (u64::MAX, 5, 16), (7, 64, 512)] {
+        let plant = gen_plant(alloc, seed, devices, frames)?;
+        let printed = print_plant(alloc, &plant)?;
+        assert!(rt;
+            comes_back(alloc, printed.as_slice()),
+            "{seed} {devices} {frames}"
+        );
+    }
     Ok(())
 }
