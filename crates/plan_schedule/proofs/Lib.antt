@@ -1,0 +1,5 @@
+pub mod GreatestLemmas
+pub mod OneText
+pub mod PlannedLemmas
+pub mod RedLemmas
+pub mod ScheduleLemmas
