@@ -1,0 +1,7 @@
+pub mod Holding
+pub mod Spacing
+pub mod Images
+pub mod Serving
+pub mod Recent
+pub mod Lockstepped
+mod PairRun

@@ -1,0 +1,5 @@
+pub mod Station
+pub mod Hold
+pub mod Image
+pub mod Turns
+pub mod Lockstep
