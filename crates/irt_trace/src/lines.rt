@@ -126,7 +126,8 @@ fn put_occupied(
     start: Ns,
     end: Ns,
 ) -> Result<(), NoMemory>
-    ensures { OnOk result (out.new.items ≡ out.old.items ++ (field port.0 ++ frame_field frame.0 ++ times_end start end)) }
+    ensures { OnOk result (out.new.items ≡
+        out.old.items ++ (field port.0 ++ frame_field frame.0 ++ times_end start end)) }
 {
     put_number(out, u64::from(port.0))?;
     put_frame(out, frame)?;

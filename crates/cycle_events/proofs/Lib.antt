@@ -1,0 +1,12 @@
+pub mod Worklist
+pub mod Lists
+pub mod Tests
+pub mod Facts
+pub mod Steps
+pub mod Complete
+pub mod Once
+pub mod Room
+pub mod Given
+pub mod Differ
+pub mod Segment
+pub mod Known
