@@ -1,0 +1,4 @@
+pub mod Lists
+pub mod Ports
+pub mod Free
+pub mod Apart

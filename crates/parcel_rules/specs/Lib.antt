@@ -1,0 +1,6 @@
+pub mod Outside
+pub mod Made
+pub mod Steps
+pub mod Loads
+pub mod Cycle
+pub mod Rows
