@@ -1,10 +1,10 @@
 -- A lockstep run is one.
-use Rattle.std.proofs.Common.{◌≡◌, ℕ, suc, List, [], ◌∷◌, refl, sym, ◌∙◌, ap, subst, arith}
+use Rattle.std.proofs.Common.{◌≡◌, ℕ, suc, List, [], ◌∷◌, length, map, refl, sym, ◌∙◌, ap, subst, arith}
 use Rattle.std.specs.List.{All}
 use Rattle.plan_rules.specs.Way.{Setup}
 use Rattle.plan_rules.specs.World.{WorldRow}
 use Rattle.iso_rules.specs.Image.{IsImage}
-use Rattle.iso_rules.specs.Lockstep.{after_takes, after_cycle, words_of_runs, IsLockstep, begun, played}
+use Rattle.iso_rules.specs.Lockstep.{after_takes, after_cycle, words_of_runs, IsLockstep, begun, played, AppLog, RunRecord, log_of, IsLockstepRecord}
 use Rattle.iso_rules.specs.Turns.{AppRun, after_take, after_image, after_turn}
 use Rattle.iso_rules.proofs.Images.{one_image}
 
@@ -29,3 +29,12 @@ one_lockstep {A} reply next setup world states _ _ _ (played k runs image before
     same_cycle reply next setup k image again runs
     (λ i d within. one_image setup world (words_of_runs (after_takes setup k runs)) _ k _ _ (images i d within) (alike i d within))
     ∙ ap (λ rs. after_cycle reply next setup k again rs) same
+
+pub one_record : {A Row : Type 0} (reply : A → List ℕ → ℕ → List ℕ) (next : A → List ℕ → ℕ → A) (setup : Setup) (world : List WorldRow)
+    (states : List A) (IsJournal : List Row → Type 0) → ((rows others : List Row) → IsJournal rows → IsJournal others → rows ≡ others) →
+    (r s : RunRecord Row) → IsLockstepRecord reply next setup world states IsJournal r → IsLockstepRecord reply next setup world states IsJournal s → r ≡ s
+one_record {A} {Row} reply next setup world states IsJournal one r s first second =
+    let Made : List AppLog → List Row → RunRecord Row = λ apps journal. record { apps = apps; journal = journal } in
+    let apps : r.apps ≡ s.apps =
+    first.apps ∙ ap (λ runs. map log_of runs) (one_lockstep reply next setup world states (length world) first.runs second.runs first.played second.played) ∙ sym second.apps in
+    ap (λ logs. Made logs r.journal) apps ∙ ap (Made s.apps) (one r.journal s.journal first.journal second.journal)

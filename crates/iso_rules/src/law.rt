@@ -1,6 +1,8 @@
 //! Laws of images and of runs.
 
-ghost use Rattle.std.specs.Prelude.{◌≡◌, ◌↔◌, ◌≤◌, ◌<◌, ◌-◌, ◌/◌, ℕ, List, Option, Some, Contains, AllPairs};
+ghost use Rattle.std.specs.Prelude.{◌≡◌, ◌↔◌, ◌≤◌, ◌<◌, ◌-◌, ◌/◌, ℕ, List, length, Option, Some, Contains, AllPairs};
+ghost use Rattle.cycle_rows.specs.Journal.{IsJournal};
+ghost use Rattle.cycle_rows.specs.declared.rows.JournalRow.{JournalRow};
 ghost use Rattle.irt_base.specs.Cycle.{IsDue};
 ghost use Rattle.irt_base.specs.Valid.{IsRate};
 ghost use Rattle.irt_base.specs.declared.blocks.Bundle.{Bundle};
@@ -9,7 +11,7 @@ ghost use Rattle.irt_base.specs.declared.plants.Demand.{Demand};
 ghost use Rattle.irt_base.specs.declared.plants.Plant.{Plant};
 ghost use Rattle.iso_rules.specs.Hold.{due_after, IsHeldOf, AgreesInRecent};
 ghost use Rattle.iso_rules.specs.Image.{IsPlannedCycle, IsPart, IsImage, AreArrivals};
-ghost use Rattle.iso_rules.specs.Lockstep.{IsLockstep};
+ghost use Rattle.iso_rules.specs.Lockstep.{IsLockstep, RunRecord, IsLockstepRecord};
 ghost use Rattle.iso_rules.specs.Station.{entries_at, provided_of, consumed_of};
 ghost use Rattle.iso_rules.specs.Turns.{AppRun};
 ghost use Rattle.plan_rules.specs.Places.{IsAccepted};
@@ -18,6 +20,7 @@ ghost use Rattle.plan_rules.specs.Tree.{demand_of, Consumes};
 ghost use Rattle.plan_rules.specs.Way.{Setup};
 ghost use Rattle.plan_rules.specs.World.{WorldRow};
 
+use cycle_rows::law::journals_are_one;
 use iso_app::apps::IsoApp;
 use plan_rules::law::accepted_plans_can_be_played;
 
@@ -73,9 +76,15 @@ pub fn stations_serve_demands()
     accepted_plans_can_be_played();
 }
 
-/// The lockstep run of a plant is one, whatever its apps do.
+/// The lockstep run of a plant is one, whatever its apps do, and it has one record, whatever the rows of parcels are.
 pub fn lockstep_runs_are_one<A: IsoApp>()
-    ensures { (setup : Setup) (world : List WorldRow) (states : List A) (cycles : ℕ) (runs others : List (AppRun A)) →
+    ensures runs { (setup : Setup) (world : List WorldRow) (states : List A) (cycles : ℕ) (runs others : List (AppRun A)) →
         IsLockstep A.reply A.next_state setup world states cycles runs →
         IsLockstep A.reply A.next_state setup world states cycles others → runs ≡ others }
-{}
+    ensures records { (setup : Setup) (world : List WorldRow) (states : List A) (parcels : ℕ → List JournalRow)
+        (r s : RunRecord JournalRow) →
+        IsLockstepRecord A.reply A.next_state setup world states (IsJournal setup world parcels (length world)) r →
+        IsLockstepRecord A.reply A.next_state setup world states (IsJournal setup world parcels (length world)) s → r ≡ s }
+{
+    journals_are_one();
+}
