@@ -1,0 +1,12 @@
+pub mod FirstWrong
+pub mod Judged
+pub mod Kept
+pub mod LineRead
+pub mod LineText
+pub mod Loops
+pub mod NumberTaken
+pub mod NumberText
+pub mod PlanBounds
+pub mod Values
+pub mod WholeLine
+pub mod WorldRead
