@@ -1,0 +1,12 @@
+pub mod Laws
+pub mod Entries
+pub mod Windows
+pub mod Rooms
+pub mod Fitted
+pub mod Rising
+pub mod Kept
+pub mod Turned
+pub mod Shaped
+pub mod Slots
+pub mod Grown
+pub mod Stepped

@@ -1,1 +1,5 @@
 pub mod Answers
+pub mod Placed
+pub mod Ends
+pub mod Steps
+pub mod Turns
