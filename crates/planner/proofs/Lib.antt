@@ -10,3 +10,9 @@ pub mod Shaped
 pub mod Slots
 pub mod Grown
 pub mod Stepped
+pub mod Usable
+pub mod Run
+pub mod Places
+pub mod Ordered
+pub mod Bundled
+pub mod Planned

@@ -23,13 +23,12 @@ pub record AreTurns (demands : List Demand) (ways : List FrameWay) (turns : List
   pub count : length turns ≡ length demands
   pub each : (index : ℕ) (t : Turn) → slice_get turns index ≡ Some t → IsTurnOf demands ways index t
 
--- a key rises where hops or lengths fall
 abbrev pub key_of : Turn → TurnKey
-key_of t = record { near = 2 ^ 32 - 1 - t.hops; short = 2 ^ 16 - 1 - t.length; frame = t.frame }
+key_of t = record { far = record { 0 = t.hops }; long = record { 0 = t.length }; frame = t.frame }
 
--- the first key comes before the second
+-- by more hops, then by more bytes, then by a lesser FrameID
 abbrev pub key_cmp : TurnKey → TurnKey → Ordering
-key_cmp a b = ordering_then (nat_cmp a.near b.near) (ordering_then (nat_cmp a.short b.short) (nat_cmp a.frame b.frame))
+key_cmp a b = ordering_then (nat_cmp b.far.0 a.far.0) (ordering_then (nat_cmp b.long.0 a.long.0) (nat_cmp a.frame b.frame))
 
 -- the demands' places
 abbrev pub order_of : List Turn → List ℕ

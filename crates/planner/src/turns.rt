@@ -9,6 +9,7 @@ use frame_ways::frame_way::FrameWay;
 use irt_base::memory::NoMemory;
 use irt_base::plants::Demand;
 use std::alloc::Global;
+use std::cmp::Reverse;
 
 /// What decides about a demand's turn: far frames come first, then long ones, then those of lesser FrameIDs.
 #[derive(Clone, Copy, Debug, PartialEq, Eq)]
@@ -22,11 +23,11 @@ pub struct Turn {
     pub index: u16,
 }
 
-/// A turn as numbers that rise.
+/// A turn's key. The lesser key has its turn first.
 #[derive(Clone, Copy, Debug, PartialEq, Eq, PartialOrd, Ord)]
 pub struct TurnKey {
-    pub near: u32,
-    pub short: u16,
+    pub far: Reverse<u32>,
+    pub long: Reverse<u16>,
     pub frame: u16,
 }
 
@@ -65,10 +66,9 @@ pub fn in_order(turns: Vec<Turn>) -> Vec<Turn>
 fn turn_key(turn: &Turn) -> TurnKey
     ensures { result ≡ key_of turn.now }
 {
-    let turn = *turn;
     TurnKey {
-        near: u32::MAX - turn.hops,
-        short: u16::MAX - turn.length,
+        far: Reverse(turn.hops),
+        long: Reverse(turn.length),
         frame: turn.frame,
     }
 }
