@@ -1,6 +1,6 @@
 -- Placed frames in another order have the same ends and bundles.
-use Rattle.std.proofs.Common.{◌≡◌, ◌≢◌, ℕ, ◌+◌, ◌<◌, ◌≤◌, ◌⊎◌, inl, inr, List, Some, AllPairs, length, get_or, sym, ◌∙◌, ap, subst, arith}
-use Rattle.std.specs.Prelude.{◌^◌, Contains, slice_get, IfOk, Result, Ok, Err}
+use Rattle.std.proofs.Common.{◌≡◌, ◌≢◌, ℕ, ◌+◌, ◌<◌, ◌≤◌, inl, inr, List, Some, AllPairs, length, get_or, subst, arith}
+use Rattle.std.specs.Prelude.{Contains, slice_get, IfOk, Result, Ok, Err}
 use Rattle.irt_base.specs.declared.memory.NoMemory.{NoMemory}
 use Rattle.std.specs.List.Sorted.{IsPermutation, IsNonDecreasingBy}
 use Rattle.std.proofs.lemmas.List.Elements.{All-from_recursion, All-contains}
@@ -11,13 +11,11 @@ use Rattle.irt_base.specs.declared.blocks.PeriodBlock.{PeriodBlock}
 use Rattle.irt_base.specs.declared.blocks.PhasePair.{PhasePair}
 use Rattle.irt_base.specs.declared.blocks.PortPeriods.{PortPeriods}
 use Rattle.irt_base.specs.declared.limits.TheConstants.{MAX_PORTS}
-use Rattle.irt_base.specs.declared.numbers.FrameId.{FrameId}
 use Rattle.irt_base.specs.declared.plants.Device.{Device}
 use Rattle.irt_base.specs.declared.plants.Plant.{Plant}
 use Rattle.plant_rules.specs.Meets.{MeetsRules, IsDevice}
 use Rattle.fit_rules.specs.declared.frame_plan.FramePlan.{FramePlan}
-use Rattle.fit_rules.specs.Blocks.{AreEntries, IsSentEnd, IsReceivedEnd, IsGreatest, IsPhase, ArePortPeriods, ArePeriods, AreBundlesOf}
-use Rattle.fit_rules.specs.Shape.{entry_of}
+use Rattle.fit_rules.specs.Blocks.{AreEntries, IsSentEnd, IsReceivedEnd, IsGreatest, IsPhase, ArePeriods, AreBundlesOf}
 use Rattle.plan_blocks.specs.Blocks.{AreLastEnds}
 use Rattle.plan_blocks.specs.Bundles.{AreSmallEnds}
 use Rattle.plan_blocks.specs.Entries.{AreByFrame}

@@ -1,5 +1,5 @@
 -- Entries of a frame alone, and items of lists.
-use Rattle.std.proofs.Common.{◌≡◌, ℕ, zero, suc, ◌<◌, Bool, true, false, cond, true≢false, List, [], ◌∷◌, Option, Some, None, length, slice_get, sym, ◌∙◌, ap, refl, arith}
+use Rattle.std.proofs.Common.{◌≡◌, ℕ, zero, suc, Bool, true, false, cond, true≢false, List, [], ◌∷◌, Option, Some, None, slice_get, sym, ◌∙◌, ap, refl}
 use Rattle.std.specs.Prelude.{◌==◌, is_some, map, slice_index_or, Contains}
 use Rattle.std.proofs.lemmas.Bool.{eq-eqb}
 use Rattle.std.proofs.lemmas.Option.{same_Some, slice_get_within, get_or_from_slice_get, slice_get-get_or}
@@ -8,8 +8,7 @@ use Rattle.irt_base.specs.declared.plants.Plant.{Plant}
 use Rattle.plan_rules.specs.Way.{entry_at, IsAnchor}
 use Rattle.plan_rules.specs.SendWindow.{SendWindow, HasWindow, at_anchor, behind}
 use Rattle.plan_rules.specs.Way.{Setup}
-use Rattle.fit_rules.specs.declared.frame_plan.FramePlan.{FramePlan}
-use Rattle.fit_rules.specs.Shape.{alone, block_of}
+use Rattle.fit_rules.specs.Shape.{block_of}
 
 abbrev pub entry_in : Plant → List (Option Entry) → ℕ → ℕ → Option Entry
 entry_in plant entries device frame = entry_at (record { plant = plant; blocks = map block_of entries }) device frame

@@ -1,6 +1,6 @@
 -- A plan is fitted in a phase exactly where its offsets are those that a placement finds.
-use Rattle.std.proofs.Common.{◌≡◌, ℕ, zero, suc, ◌+◌, ◌<◌, ◌≤◌, inl, inr, List, [], ◌∷◌, Option, Some, None, length, sym, ◌∙◌, ap, subst, arith, refl}
-use Rattle.std.specs.Prelude.{◌↔◌, Contains, map, slice_get, slice_index_or}
+use Rattle.std.proofs.Common.{◌≡◌, ℕ, zero, suc, ◌+◌, ◌≤◌, inl, List, [], ◌∷◌, Option, Some, None, sym, ◌∙◌, ap, subst, arith, refl}
+use Rattle.std.specs.Prelude.{◌↔◌, Contains, map, slice_index_or}
 use Rattle.std.proofs.lemmas.Option.{slice_get_within}
 use Rattle.irt_base.specs.Cycle.{wire_time}
 use Rattle.irt_base.specs.Valid.{IsRate}
@@ -11,7 +11,7 @@ use Rattle.irt_route.specs.Routes.{RouteTables, IsRoutesOf}
 use Rattle.plan_rules.specs.SendWindow.{SendWindow, slack_time}
 use Rattle.plan_rules.specs.Way.{entry_at, IsAnchor}
 use Rattle.fit_rules.specs.declared.frame_plan.FramePlan.{FramePlan}
-use Rattle.fit_rules.specs.Fit.{IsLeastFrom, IsUsing, IsClearAt, IsReady, IsFitted, IsInPhase, IsLastEnd, IsFirstFit, HasNoFit, end_time}
+use Rattle.fit_rules.specs.Fit.{IsLeastFrom, IsClearAt, IsReady, IsFitted, IsInPhase, IsLastEnd, IsFirstFit, HasNoFit, end_time}
 use Rattle.fit_rules.specs.Moves.{offset_at}
 use Rattle.fit_rules.specs.Order.{IsDemandAt, parents_of}
 use Rattle.fit_rules.specs.Shape.{alone, entry_of, IsRatioFor, HasShape}

@@ -1,18 +1,14 @@
 -- The last ends with a frame that is placed beside the others.
-use Rattle.std.proofs.Common.{◌≡◌, ℕ, ◌+◌, ◌<◌, ◌≤◌, ◌⊎◌, inl, inr, List, [], ◌∷◌, ◌++◌, Some, sym, ◌∙◌, ap, subst, arith}
-use Rattle.std.specs.Prelude.{Contains}
+use Rattle.std.proofs.Common.{◌≡◌, ℕ, ◌+◌, ◌≤◌, ◌⊎◌, inl, inr, List, [], ◌∷◌, ◌++◌, sym, ◌∙◌, ap, subst, arith}
 use Rattle.irt_base.specs.Cycle.{IsDue, wire_time, guard_time}
 use Rattle.irt_base.specs.declared.blocks.Entry.{Entry}
-use Rattle.irt_base.specs.declared.limits.TheConstants.{PHASES}
 use Rattle.irt_base.specs.declared.plants.Demand.{Demand}
 use Rattle.irt_base.specs.declared.plants.Plant.{Plant}
-use Rattle.irt_route.specs.Routes.{RouteTables}
 use Rattle.plan_rules.specs.Frames.{IsForwarded}
 use Rattle.plan_rules.specs.SendWindow.{SendWindow}
 use Rattle.fit_rules.specs.declared.frame_plan.FramePlan.{FramePlan}
 use Rattle.fit_rules.specs.Blocks.{IsSentEnd, IsReceivedEnd, IsGreatest}
 use Rattle.fit_rules.specs.Fit.{IsUsing, end_time}
-use Rattle.fit_rules.specs.Order.{parents_of}
 use Rattle.fit_rules.specs.Shape.{alone, HasShape}
 use Rattle.irt_route.specs.Trees.{Parents}
 use Rattle.placement.specs.Layouts.{offset_at, end_of}
@@ -40,13 +36,16 @@ greatest_more P Q R old new left right parts above up bound some was = record {
   some = elim some [
     | inl same ↦ elim was.some [
       | inl p ↦ inl (left new (subst P (sym same) p))
-      | inr (zero_is, none) ↦ inr (same ∙ zero_is, λ x is. elim (parts x is) [
-        | inl p ↦ none x p
-        | inr q ↦
-            let high = above x q in
-            let low = bound x q in
-            absurd (omega arith)
-      ])
+      | inr (zero_is, none) ↦ inr (
+        same ∙ zero_is,
+        λ x is. elim (parts x is) [
+          | inl p ↦ none x p
+          | inr q ↦
+              let high = above x q in
+              let low = bound x q in
+              absurd (omega arith)
+        ],
+      )
     ]
     | inr q ↦ inl (right new q)
   ];
@@ -55,7 +54,7 @@ greatest_more P Q R old new left right parts above up bound some was = record {
 module _ (laws : FitLaws) (plant : Plant) (parents : Parents) (demand : Demand) (way : FrameWay) (known : IsFrameWay plant parents demand way)
     (rate : Rate) (plan : FramePlan) (shape : HasShape plant parents demand rate.ratio rate.phase plan) (offsets : List ℕ) (has : HasOffsets plant plan offsets)
     (ends_are : (device port : ℕ) (e : Entry) (w : SendWindow) (s : _) → IsSentSo way demand.length offsets device port e w s →
-        end_of (limits_of plant) way.layout.wire s (offset_at offsets s.anchor.0) ≡ end_time plant device e w)
+    end_of (limits_of plant) way.layout.wire s (offset_at offsets s.anchor.0) ≡ end_time plant device e w)
     (placed : List FramePlan) where
   due_here : (k : ℕ) (e : Entry) → (e.ratio ≡ rate.ratio) × (e.phase ≡ rate.phase) → IsDue k e.ratio e.phase → IsDue k rate.ratio rate.phase
   due_here k e (ratio, phase) due = subst (λ r. IsDue k r rate.phase) ratio (subst (λ p. IsDue k e.ratio p) phase due)

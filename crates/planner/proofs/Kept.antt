@@ -1,9 +1,8 @@
 -- The offsets of anchors, and entries by them.
-use Rattle.std.proofs.Common.{◌≡◌, ◌≢◌, ℕ, zero, suc, ◌+◌, ◌<◌, ◌≤◌, inl, inr, List, [], ◌∷◌, ◌++◌, Option, Some, None, length, get_or, set, replicate, sym, ◌∙◌, ap, subst, arith, refl, length-append}
-use Rattle.std.specs.Prelude.{Contains, slice_get, slice_index_or}
+use Rattle.std.proofs.Common.{◌≡◌, ◌≢◌, ℕ, zero, suc, ◌+◌, ◌<◌, inl, inr, List, [], ◌∷◌, ◌++◌, Option, None, length, get_or, set, replicate, sym, ◌∙◌, ap, arith, refl, length-append}
+use Rattle.std.specs.Prelude.{slice_index_or}
 use Rattle.std.proofs.lemmas.Bool.{cases_eq, cases_lt}
 use Rattle.std.proofs.lemmas.List.{length-set, get_or-set_same, get_or-set_other, get_or_past, get_or_default}
-use Rattle.std.proofs.lemmas.List.Elements.{Contains-get_or}
 use Rattle.irt_base.specs.declared.limits.TheConstants.{MAX_DEVICES}
 use Rattle.irt_base.specs.declared.blocks.Entry.{Entry}
 use Rattle.placement.specs.Layouts.{offset_at}

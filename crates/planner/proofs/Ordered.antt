@@ -1,12 +1,12 @@
 -- Sorted turns are the order of placing, and placed frames differ.
-use Rattle.std.proofs.Common.{◌≡◌, ◌≢◌, ℕ, zero, suc, ◌+◌, ◌<◌, ◌≤◌, ◌⊎◌, inl, inr, List, [], ◌∷◌, Some, AllPairs, length, get_or, map, false, true, sym, ◌∙◌, ap, subst, arith, refl}
-use Rattle.std.specs.Prelude.{Contains, slice_get, ◌==◌}
-use Rattle.std.specs.List.{AllByRecursion, IsDistinct}
+use Rattle.std.proofs.Common.{◌≡◌, ◌≢◌, ℕ, zero, suc, ◌+◌, ◌<◌, ◌≤◌, ◌⊎◌, inl, inr, List, [], ◌∷◌, Some, AllPairs, length, get_or, map, false, sym, ◌∙◌, ap, subst, arith}
+use Rattle.std.specs.Prelude.{Contains, slice_get}
+use Rattle.std.specs.List.{IsDistinct}
 use Rattle.std.specs.List.Sorted.{IsPermutation, IsSortedByKey}
 use Rattle.std.specs.Ordering.{nat_cmp, ordering_then, is_lt}
-use Rattle.std.proofs.lemmas.Bool.{cases_lt, eq-eqb, eqb-false}
+use Rattle.std.proofs.lemmas.Bool.{cases_lt, eqb-false}
 use Rattle.std.proofs.lemmas.Bool.Decides.{nat_tests}
-use Rattle.std.proofs.lemmas.List.{length-map, get_or-map}
+use Rattle.std.proofs.lemmas.List.{length-map}
 use Rattle.std.proofs.lemmas.List.Elements.{All-from_recursion, All-contains, Contains-get_or}
 use Rattle.std.proofs.lemmas.List.Sorted.{IsPermutation-sym, Contains-permutation, length_permutation}
 use Rattle.std.proofs.lemmas.Option.{same_Some, slice_get-get_or, slice_get_within, get_or_from_slice_get}
@@ -16,7 +16,7 @@ use Rattle.irt_base.specs.declared.plants.Plant.{Plant}
 use Rattle.irt_route.specs.Routes.{RouteTables, IsRoutesOf}
 use Rattle.plant_rules.specs.Words.{same_frame}
 use Rattle.fit_rules.specs.declared.frame_plan.FramePlan.{FramePlan}
-use Rattle.fit_rules.specs.Order.{HasFarthest, IsEarlier, IsDemandAt, AreInOrder, IsOrder, ArePlaced}
+use Rattle.fit_rules.specs.Order.{HasFarthest, IsDemandAt, AreInOrder, IsOrder, ArePlaced}
 use Rattle.frame_ways.specs.declared.frame_way.FrameWay.{FrameWay}
 use Rattle.planner.specs.Steps.{AreWays}
 use Rattle.planner.specs.Turns.{IsTurnOf, AreTurns, key_of, key_cmp, order_of}

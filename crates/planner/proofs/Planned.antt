@@ -1,10 +1,9 @@
 -- What planning answers, by the parts that it joins.
-use Rattle.std.proofs.Common.{◌≡◌, ◌≢◌, ℕ, ◌<◌, List, Some, Ok, Err, Result, AllPairs, length, sym, ◌∙◌, subst, subst₂, refl}
-use Rattle.std.specs.Prelude.{All, Contains, IfOk, IfErr, slice_index_or}
+use Rattle.std.proofs.Common.{◌≡◌, ◌≢◌, ◌<◌, List, Ok, Err, Result, AllPairs, length, sym, subst₂, refl}
+use Rattle.std.specs.Prelude.{All, IfOk, IfErr, slice_index_or}
 use Rattle.std.specs.List.Sorted.{IsPermutation, IsSortedByKey}
 use Rattle.std.proofs.lemmas.List.Elements.{Contains-get_or}
 use Rattle.irt_base.specs.declared.blocks.Bundle.{Bundle}
-use Rattle.irt_base.specs.declared.memory.NoMemory.{NoMemory}
 use Rattle.irt_base.specs.declared.numbers.FrameId.{FrameId}
 use Rattle.irt_base.specs.declared.plants.Demand.{Demand}
 use Rattle.irt_base.specs.declared.plants.Plant.{Plant}
@@ -14,7 +13,7 @@ use Rattle.fit_rules.specs.Blocks.{AreBundlesOf, AreFirstFit}
 use Rattle.fit_rules.specs.Order.{IsFit, IsOverrun}
 use Rattle.frame_ways.specs.declared.frame_way.FrameWay.{FrameWay}
 use Rattle.planner.specs.Answers.{IsPlanFault, IsAnswer, IsOverrunAnswer}
-use Rattle.planner.specs.Steps.{AreWays, AreAllPlaced, IsOverrunIn, IsRun}
+use Rattle.planner.specs.Steps.{AreWays, AreAllPlaced, IsRun}
 use Rattle.planner.specs.Turns.{AreTurns, key_of, key_cmp, order_of}
 use Rattle.planner.specs.declared.fault.PlanFault.{PlanFault}
 use Rattle.planner.specs.declared.fault.PlanFault.TheVariants as faults
@@ -75,11 +74,11 @@ module _ (plant : Plant) (routes : RouteTables) (are : IsRoutesOf plant routes) 
 -- By the laws of first fit there is no other answer.
 module _ (plant : Plant) (routes : RouteTables) (are : IsRoutesOf plant routes)
     (one : (plant : Plant) (routes : RouteTables) (bundles others : List Bundle) → IsRoutesOf plant routes →
-        AreFirstFit plant routes bundles → AreFirstFit plant routes others → bundles ≡ others)
+    AreFirstFit plant routes bundles → AreFirstFit plant routes others → bundles ≡ others)
     (excluded : (plant : Plant) (routes : RouteTables) (plans : List FramePlan) (frame : FrameId) → IsRoutesOf plant routes →
-        IsFit plant routes plans → IsOverrun plant routes frame → ⊥)
+    IsFit plant routes plans → IsOverrun plant routes frame → ⊥)
     (overruns : (plant : Plant) (routes : RouteTables) (frame other : FrameId) → IsRoutesOf plant routes →
-        IsOverrun plant routes frame → IsOverrun plant routes other → frame ≡ other) where
+    IsOverrun plant routes frame → IsOverrun plant routes other → frame ≡ other) where
   pub only_answer : (r : Result (List Bundle) PlanFault) → IfOk r (AreFirstFit plant routes) → IfErr r (IsPlanFault plant routes) →
       (bundles : List Bundle) → AreFirstFit plant routes bundles → IsAnswer bundles r
   only_answer (Ok answer) fit fault bundles is = one plant routes answer bundles are fit is

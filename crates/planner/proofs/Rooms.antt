@@ -1,8 +1,8 @@
 -- Where the tables leave room for an anchor's sendings, the placed frames do.
-use Rattle.std.proofs.Common.{◌≡◌, ℕ, ◌+◌, ◌<◌, ◌≤◌, ◌⊎◌, inl, inr, List, Some, sym, ◌∙◌, ap, subst, arith}
+use Rattle.std.proofs.Common.{◌≡◌, ℕ, ◌+◌, ◌<◌, ◌≤◌, ◌⊎◌, inl, inr, List, Some, sym, subst, arith}
 use Rattle.std.specs.Prelude.{Contains, slice_index_or}
 use Rattle.std.proofs.lemmas.List.Elements.{All-contains, Contains-get_or}
-use Rattle.irt_base.specs.Cycle.{IsDue, SharesCycle, wire_time, guard_time}
+use Rattle.irt_base.specs.Cycle.{wire_time, guard_time}
 use Rattle.irt_base.specs.Valid.{IsRate}
 use Rattle.irt_base.specs.declared.limits.TheConstants.{PHASES}
 use Rattle.irt_base.specs.declared.blocks.Entry.{Entry}
@@ -12,13 +12,12 @@ use Rattle.irt_base.proofs.CycleLemmas.{shares_phase}
 use Rattle.irt_route.specs.Trees.{Parents}
 use Rattle.plan_rules.specs.SendWindow.{SendWindow, slack_time}
 use Rattle.fit_rules.specs.declared.frame_plan.FramePlan.{FramePlan}
-use Rattle.fit_rules.specs.Delays.{IsDelayed, HasRoomAt, AreRoomyAt}
-use Rattle.fit_rules.specs.Fit.{IsUsing}
+use Rattle.fit_rules.specs.Delays.{HasRoomAt, AreRoomyAt}
 use Rattle.fit_rules.specs.Shape.{entry_of}
 use Rattle.gap_table.specs.Slots.{IsClear}
 use Rattle.gap_table.specs.declared.slot.Slot.{Slot}
 use Rattle.placement.specs.Layouts.{IsValidSending, slot_of}
-use Rattle.placement.specs.Placings.{IsFree, IsFitting, IsOpen, rate_of}
+use Rattle.placement.specs.Placings.{IsFitting, IsOpen, rate_of}
 use Rattle.placement.specs.Tables.{IsPlace, table_at}
 use Rattle.placement.specs.declared.layout.Sending.{Sending}
 use Rattle.frame_ways.specs.FrameWays.{base_of, IsFrameWay}
@@ -82,7 +81,7 @@ module _ (plant : Plant) (parents : Parents) (demand : Demand) (way : FrameWay) 
             let its = rated other s.device.0 f among (entry_from plant other.entries s.device.0 other.frame.0 f using.stands) in
             let (k, below, due, also) = shares_phase ratio phase f.ratio f.phase rate its shared in
             let there = holds.all s.device.0 s.port.0 k (slot_in f v) (place_for s has k below)
-                (record { plan = other; e = f; w = v; placed = among; sends = using; due = also; is = λ i. slot_in f v }) in
+            (record { plan = other; e = f; w = v; placed = among; sends = using; due = also; is = λ i. slot_in f v }) in
             apart_of s f v (All-contains (IsClear (guard_time plant.window) (slot_of way.layout.wire s x)) (table_at tables s.device.0 s.port.0 k) (slot_in f v)
             (fits.free k below due) there);
       }

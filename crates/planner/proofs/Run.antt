@@ -1,25 +1,22 @@
 -- Placing one demand after the other.
-use Rattle.std.proofs.Common.{◌≡◌, ℕ, zero, suc, ◌+◌, ◌<◌, ◌≤◌, inl, inr, List, [], ◌∷◌, ◌++◌, Some, Ok, Err, Result, length, get_or, take, replicate, sym, ◌∙◌, ap, subst, arith, refl}
-use Rattle.std.specs.Prelude.{All, Contains, map, slice_get, slice_index_or}
+use Rattle.std.proofs.Common.{◌≡◌, ℕ, zero, suc, ◌+◌, ◌<◌, inl, inr, List, [], ◌∷◌, ◌++◌, Some, Ok, Err, Result, length, get_or, take, replicate, sym, ◌∙◌, ap, subst, arith, refl}
+use Rattle.std.specs.Prelude.{All, Contains, slice_get, slice_index_or}
 use Rattle.std.proofs.lemmas.Bool.{cases_lt}
 use Rattle.std.proofs.lemmas.List.{take-append-le, get_or_past, get_or-map, get_or_default, length-map}
 use Rattle.std.proofs.lemmas.Option.{slice_get-get_or, slice_get_within}
-use Rattle.irt_base.specs.declared.numbers.FrameId.{FrameId}
 use Rattle.irt_base.specs.declared.plants.Demand.{Demand}
 use Rattle.irt_base.specs.declared.plants.Plant.{Plant}
 use Rattle.irt_route.specs.Routes.{RouteTables, IsRoutesOf}
 use Rattle.fit_rules.specs.declared.frame_plan.FramePlan.{FramePlan}
-use Rattle.fit_rules.specs.Blocks.{IsSentEnd, IsReceivedEnd}
 use Rattle.fit_rules.specs.Fit.{IsFirstFit}
 use Rattle.fit_rules.specs.Order.{IsDemandAt, parents_of, IsPlacedAt, ArePlaced}
-use Rattle.gap_table.specs.declared.slot.Slot.{Slot}
 use Rattle.placement.specs.Tables.{place_of, table_at}
 use Rattle.placement.specs.declared.gaps.TheConstants.{TABLES}
 use Rattle.plan_blocks.specs.Ends.{end_at}
 use Rattle.plan_blocks.proofs.Lists.{get_more, length_more}
 use Rattle.frame_ways.specs.FrameWays.{IsFrameWay}
 use Rattle.frame_ways.specs.declared.frame_way.FrameWay.{FrameWay}
-use Rattle.planner.specs.Steps.{IsEmpty, HoldsPlaced, IsFitAdded, IsStep, AreWays, AreAllPlaced, IsOverrunIn, IsRun}
+use Rattle.planner.specs.Steps.{IsEmpty, HoldsPlaced, IsStep, AreWays, IsRun}
 use Rattle.planner.specs.Turns.{order_of}
 use Rattle.planner.specs.declared.fault.PlanFault.{PlanFault}
 use Rattle.planner.specs.declared.fault.PlanFault.TheVariants as faults

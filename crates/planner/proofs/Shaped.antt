@@ -63,10 +63,10 @@ module _ (plant : Plant) (parents : Parents) (demand : Demand) (way : FrameWay) 
       let (g, there, same) = entry_back device e at in
       let none : (a : Anchor) → Contains way.layout.anchors a → a.device.0 ≢ device =
       λ a listed here.
-          let own = known.anchors.only a listed in
-          let stands : entry_of (base_of way) device ≡ Some own.e = subst (λ d. entry_of (base_of way) d ≡ Some own.e) here own.stands in
-          idle (anchors_alike plant parents demand 1 1 rate.ratio rate.phase device own.e e (known.shape.each device own.e stands) (each_entry device e at)
-          (base_of way) plan (subst (λ d. IsAnchor (alone plant (base_of way)) d own.e) here own.starts)) in
+      let own = known.anchors.only a listed in
+      let stands : entry_of (base_of way) device ≡ Some own.e = subst (λ d. entry_of (base_of way) d ≡ Some own.e) here own.stands in
+      idle (anchors_alike plant parents demand 1 1 rate.ratio rate.phase device own.e e (known.shape.each device own.e stands) (each_entry device e at)
+      (base_of way) plan (subst (λ d. IsAnchor (alone plant (base_of way)) d own.e) here own.starts)) in
       sym (ap (λ (x : Entry). x.send_offset) same) ∙ is.are.else device none
 
   pub placed_shape : HasShape plant parents demand rate.ratio rate.phase plan

@@ -1,21 +1,19 @@
 -- The slots of a placed frame beside those of the others.
-use Rattle.std.proofs.Common.{◌≡◌, ℕ, ◌+◌, ◌<◌, ◌≤◌, ◌⊎◌, inl, inr, List, [], ◌∷◌, ◌++◌, Some, Bool, true, false, cond, length, sym, ◌∙◌, ap, subst, arith, refl}
-use Rattle.std.specs.Prelude.{Contains, All, slice_get, ◌==◌}
+use Rattle.std.proofs.Common.{◌≡◌, ℕ, ◌+◌, ◌≤◌, ◌⊎◌, inl, inr, List, [], ◌∷◌, ◌++◌, Bool, true, false, cond, length, sym, ◌∙◌, ap, subst, arith, refl}
+use Rattle.std.specs.Prelude.{Contains, ◌==◌}
 use Rattle.std.proofs.lemmas.List.Elements.{All-weaker}
-use Rattle.irt_base.specs.Cycle.{IsDue, wire_time, guard_time}
+use Rattle.irt_base.specs.Cycle.{IsDue, wire_time}
 use Rattle.irt_base.specs.declared.blocks.Entry.{Entry}
-use Rattle.irt_base.specs.declared.limits.TheConstants.{PHASES}
-use Rattle.irt_base.specs.declared.numbers.DevId.{DevId}
 use Rattle.irt_base.specs.declared.plants.Demand.{Demand}
 use Rattle.irt_base.specs.declared.plants.Plant.{Plant}
 use Rattle.irt_route.specs.Trees.{Parents}
 use Rattle.plan_rules.specs.SendWindow.{SendWindow}
 use Rattle.fit_rules.specs.declared.frame_plan.FramePlan.{FramePlan}
 use Rattle.fit_rules.specs.Fit.{IsUsing}
-use Rattle.fit_rules.specs.Shape.{entry_of, HasShape}
+use Rattle.fit_rules.specs.Shape.{HasShape}
 use Rattle.gap_table.specs.Slots.{IsClear}
 use Rattle.gap_table.specs.declared.slot.Slot.{Slot}
-use Rattle.placement.specs.Layouts.{IsLayout, offset_at, slot_of, end_of}
+use Rattle.placement.specs.Layouts.{IsLayout, offset_at, slot_of}
 use Rattle.placement.specs.Placings.{IsFitting, ArePlaced}
 use Rattle.placement.specs.Records.{AreClearSlots, IsFrameSlot}
 use Rattle.placement.specs.Tables.{Adds, IsPlace, table_at}
@@ -24,7 +22,7 @@ use Rattle.placement.specs.declared.layout.Limits.{Limits}
 use Rattle.placement.specs.declared.layout.Rate.{Rate}
 use Rattle.placement.specs.declared.layout.Sending.{Sending}
 use Rattle.plan_blocks.proofs.Lists.{get_more, get_kept, get_last}
-use Rattle.frame_ways.specs.FrameWays.{base_of, IsFrameWay}
+use Rattle.frame_ways.specs.FrameWays.{IsFrameWay}
 use Rattle.frame_ways.specs.declared.frame_way.FrameWay.{FrameWay}
 use Rattle.planner.specs.Placed.{slot_in, IsPlacedSlot, HoldsPlans}
 use Rattle.planner.proofs.Entries.{contains_at, place_of}

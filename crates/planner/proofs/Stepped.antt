@@ -1,5 +1,5 @@
 -- What is found in the tables is first fit.
-use Rattle.std.proofs.Common.{◌≡◌, ℕ, ◌+◌, ◌<◌, ◌≤◌, ◌⊎◌, inl, inr, List, [], ◌∷◌, ◌++◌, Some, Ok, Err, Result, sym, ◌∙◌, ap, subst, arith, refl}
+use Rattle.std.proofs.Common.{◌≡◌, ℕ, ◌≤◌, inl, inr, List, [], ◌∷◌, ◌++◌, Some, Ok, Err, Result, sym, ◌∙◌, subst, arith}
 use Rattle.std.specs.Prelude.{Contains}
 use Rattle.irt_base.specs.Valid.{IsRate}
 use Rattle.irt_base.specs.declared.blocks.Entry.{Entry}
@@ -9,16 +9,14 @@ use Rattle.irt_route.specs.Routes.{RouteTables, IsRoutesOf}
 use Rattle.fit_rules.specs.declared.frame_plan.FramePlan.{FramePlan}
 use Rattle.fit_rules.specs.Order.{IsDemandAt, parents_of}
 use Rattle.fit_rules.specs.Shape.{entry_of, HasShape}
-use Rattle.placement.specs.Layouts.{offset_at}
 use Rattle.placement.specs.Placings.{rate_of}
 use Rattle.placement.specs.Tables.{IsPlace}
-use Rattle.placement.specs.declared.layout.Rate.{Rate}
 use Rattle.plan_blocks.specs.Blocks.{AreLastEnds}
 use Rattle.plan_blocks.specs.Ends.{end_at}
 use Rattle.frame_ways.specs.FrameWays.{IsFrameWay}
 use Rattle.frame_ways.specs.declared.frame_way.FrameWay.{FrameWay}
 use Rattle.planner.specs.Placed.{limits_of, HoldsPlans}
-use Rattle.planner.specs.Steps.{IsBestAdded, HasNoPhase, IsAdded, IsSoundEntry, HoldsPlaced, IsFitAdded, IsStep}
+use Rattle.planner.specs.Steps.{IsBestAdded, IsAdded, IsSoundEntry, HoldsPlaced, IsFitAdded, IsStep}
 use Rattle.planner.specs.declared.fault.PlanFault.{PlanFault}
 use Rattle.planner.specs.declared.fault.PlanFault.TheVariants as faults
 use Rattle.planner.specs.declared.placed.Placed.{Placed}

@@ -1,15 +1,14 @@
 -- The ways of a plant's demands are usable.
-use Rattle.std.proofs.Common.{◌≡◌, ℕ, zero, suc, ◌+◌, ◌<◌, ◌≤◌, inl, inr, List, [], ◌∷◌, ◌++◌, Some, length, sym, ◌∙◌, ap, subst, arith, refl}
+use Rattle.std.proofs.Common.{◌≡◌, ℕ, zero, suc, ◌+◌, ◌<◌, inl, inr, List, [], ◌∷◌, ◌++◌, Some, length, sym, ◌∙◌, ap, subst, arith, refl}
 use Rattle.std.specs.Prelude.{All, slice_get}
 use Rattle.std.proofs.lemmas.List.Elements.{All-push}
-use Rattle.std.proofs.lemmas.Option.{same_Some, slice_get_within}
-use Rattle.irt_base.specs.declared.blocks.Entry.{Entry}
+use Rattle.std.proofs.lemmas.Option.{slice_get_within}
 use Rattle.irt_base.specs.declared.plants.Demand.{Demand}
 use Rattle.irt_base.specs.declared.plants.Plant.{Plant}
 use Rattle.irt_route.specs.Routes.{RouteTables, IsRoutesOf}
 use Rattle.fit_rules.specs.Order.{IsDemandAt, parents_of}
 use Rattle.plan_blocks.proofs.Lists.{get_more, length_more}
-use Rattle.frame_ways.specs.FrameWays.{base_of, IsFrameWay}
+use Rattle.frame_ways.specs.FrameWays.{IsFrameWay}
 use Rattle.frame_ways.specs.declared.frame_way.FrameWay.{FrameWay}
 use Rattle.planner.specs.Steps.{IsUsable, AreWays}
 

@@ -1,8 +1,6 @@
 -- The windows of a demand's plan, by the offsets of its anchors and the frame's way.
-use Rattle.std.proofs.Common.{◌≡◌, ℕ, ◌+◌, inl, inr, List, Some, sym, ◌∙◌, ap, subst, arith, refl}
+use Rattle.std.proofs.Common.{◌≡◌, ℕ, ◌+◌, inl, inr, List, Some, sym, ◌∙◌, ap, arith, refl}
 use Rattle.std.specs.Prelude.{option_map, Contains}
-use Rattle.std.proofs.lemmas.Option.{same_Some}
-use Rattle.irt_base.specs.Cycle.{wire_time}
 use Rattle.irt_base.specs.declared.blocks.Entry.{Entry}
 use Rattle.irt_base.specs.declared.numbers.FrameId.{FrameId}
 use Rattle.irt_base.specs.declared.plants.Demand.{Demand}
@@ -16,7 +14,6 @@ use Rattle.fit_rules.specs.Shape.{alone, entry_of, IsEntryOf, HasShape}
 use Rattle.fit_rules.specs.Fit.{IsUsing}
 use Rattle.fit_rules.specs.Moves.{offset_at}
 use Rattle.placement.specs.Layouts.{offset_at as offset_in}
-use Rattle.placement.specs.declared.layout.Anchor.{Anchor}
 use Rattle.placement.specs.declared.layout.Sending.{Sending}
 use Rattle.frame_ways.specs.FrameWays.{base_of, IsFrameWay}
 use Rattle.frame_ways.specs.declared.frame_way.Arrival.{Arrival}
@@ -122,17 +119,19 @@ module _ (laws : FitLaws) (plant : Plant) (parents : Parents) (demand : Demand) 
       let (here, there) = hangs_plan device w using.sends in
       let (g, v, ways, sends, shifted) = laws.sendings plant parents demand ratio phase plan shape 1 1 (base_of way) known.shape device port (offset_in offsets w.anchor) 0 e w using here there in
       let (s, in_layout, anchor, at, by, least, greatest) = known.sendings.all w.anchor device port v.lo v.hi
-          (record { e = g; w = v; sends = sends; hangs = shifted.anchor; lo = refl; hi = refl }) in
-      let same : offset_in offsets s.anchor.0 ≡ offset_in offsets w.anchor = ap (offset_in offsets) anchor in
-      (s, record {
-        has = in_layout;
-        device_is = at;
-        port_is = by;
-        anchor_is = anchor;
-        lo = omega (arith, shifted.lo, least, same);
-        hi = omega (arith, shifted.hi, greatest, same);
-        long = long_entry device e using.stands;
-      })
+      (record { e = g; w = v; sends = sends; hangs = shifted.anchor; lo = refl; hi = refl }) in
+      let same : offset_in offsets s.anchor.0 ≡ offset_in offsets w.anchor = ap (offset_in offsets) anchor in (
+        s,
+        record {
+          has = in_layout;
+          device_is = at;
+          port_is = by;
+          anchor_is = anchor;
+          lo = omega (arith, shifted.lo, least, same);
+          hi = omega (arith, shifted.hi, greatest, same);
+          long = long_entry device e using.stands;
+        },
+      )
 
   pub sends_so : (s : Sending) → Contains way.layout.sendings s →
       (e : Entry) × (w : SendWindow) × IsUsing plant plan s.device.0 s.port.0 e w × IsSentSo way demand.length offsets s.device.0 s.port.0 e w s
@@ -140,18 +139,22 @@ module _ (laws : FitLaws) (plant : Plant) (parents : Parents) (demand : Demand) 
       let is = known.sendings.only s in_layout in
       let (there, here) = hangs_base s.device.0 is.w is.sends.sends in
       let (e, w, ways, using, shifted) = laws.sendings plant parents demand 1 1 (base_of way) known.shape ratio phase plan shape s.device.0 s.port.0 0
-          (offset_in offsets is.w.anchor) is.e is.w is.sends there here in
+      (offset_in offsets is.w.anchor) is.e is.w is.sends there here in
       let anchor : s.anchor.0 ≡ w.anchor = sym (shifted.anchor ∙ is.hangs) in
-      let same : offset_in offsets s.anchor.0 ≡ offset_in offsets is.w.anchor = ap (offset_in offsets) (sym is.hangs) in
-      (e, w, using, record {
-        has = in_layout;
-        device_is = refl;
-        port_is = refl;
-        anchor_is = anchor;
-        lo = omega (arith, shifted.lo, is.lo, same);
-        hi = omega (arith, shifted.hi, is.hi, same);
-        long = long_entry s.device.0 e using.stands;
-      })
+      let same : offset_in offsets s.anchor.0 ≡ offset_in offsets is.w.anchor = ap (offset_in offsets) (sym is.hangs) in (
+        e,
+        w,
+        using,
+        record {
+          has = in_layout;
+          device_is = refl;
+          port_is = refl;
+          anchor_is = anchor;
+          lo = omega (arith, shifted.lo, is.lo, same);
+          hi = omega (arith, shifted.hi, is.hi, same);
+          long = long_entry s.device.0 e using.stands;
+        },
+      )
 
   pub come_so : (device : ℕ) (e : Entry) (hop : ℕ) (w : SendWindow) → IsForwarded (alone plant plan) device plan.frame.0 e hop w →
       (a : Arrival) × IsComeSo way demand.length offsets device e hop w a
@@ -160,15 +163,17 @@ module _ (laws : FitLaws) (plant : Plant) (parents : Parents) (demand : Demand) 
       let (g, v, ways, now, shifted) = laws.arrivals plant parents demand ratio phase plan shape 1 1 (base_of way) known.shape device hop (offset_in offsets w.anchor) 0 e w comes here there in
       let (a, listed, at, by, anchor, latest) = known.arrivals.all device g hop v now in
       let one : a.anchor.0 ≡ w.anchor = anchor ∙ shifted.anchor in
-      let same : offset_in offsets a.anchor.0 ≡ offset_in offsets w.anchor = ap (offset_in offsets) one in
-      (a, record {
-        has = listed;
-        device_is = at;
-        port_is = by ∙ ways.rx_port;
-        anchor_is = one;
-        latest = omega (arith, shifted.hi, latest, same);
-        long = long_entry device e comes.stands;
-      })
+      let same : offset_in offsets a.anchor.0 ≡ offset_in offsets w.anchor = ap (offset_in offsets) one in (
+        a,
+        record {
+          has = listed;
+          device_is = at;
+          port_is = by ∙ ways.rx_port;
+          anchor_is = one;
+          latest = omega (arith, shifted.hi, latest, same);
+          long = long_entry device e comes.stands;
+        },
+      )
 
   pub comes_so : (a : Arrival) → Contains way.arrivals a →
       (e : Entry) × (hop : ℕ) × (w : SendWindow) × IsForwarded (alone plant plan) a.device.0 plan.frame.0 e hop w ×
@@ -177,14 +182,19 @@ module _ (laws : FitLaws) (plant : Plant) (parents : Parents) (demand : Demand) 
       let is = known.arrivals.only a listed in
       let (there, here) = hangs_base is.comes.parent is.w is.comes.sends in
       let (e, w, ways, comes, shifted) = laws.arrivals plant parents demand 1 1 (base_of way) known.shape ratio phase plan shape a.device.0 is.hop 0
-          (offset_in offsets is.w.anchor) is.e is.w is.comes there here in
+      (offset_in offsets is.w.anchor) is.e is.w is.comes there here in
       let one : a.anchor.0 ≡ w.anchor = sym (shifted.anchor ∙ is.hangs) in
-      let same : offset_in offsets a.anchor.0 ≡ offset_in offsets is.w.anchor = ap (offset_in offsets) (sym is.hangs) in
-      (e, is.hop, w, comes, record {
-        has = listed;
-        device_is = refl;
-        port_is = sym is.here ∙ sym ways.rx_port;
-        anchor_is = one;
-        latest = omega (arith, shifted.hi, is.is, same);
-        long = long_entry a.device.0 e comes.stands;
-      })
+      let same : offset_in offsets a.anchor.0 ≡ offset_in offsets is.w.anchor = ap (offset_in offsets) (sym is.hangs) in (
+        e,
+        is.hop,
+        w,
+        comes,
+        record {
+          has = listed;
+          device_is = refl;
+          port_is = sym is.here ∙ sym ways.rx_port;
+          anchor_is = one;
+          latest = omega (arith, shifted.hi, is.is, same);
+          long = long_entry a.device.0 e comes.stands;
+        },
+      )

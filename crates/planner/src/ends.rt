@@ -9,9 +9,9 @@ ghost use Rattle.frame_ways.specs.FrameWays.{IsValidArrival};
 ghost use Rattle.planner.specs.Ends.{IsSendingEnd, IsArrivalEnd, arrival_end};
 
 use frame_ways::frame_way::Arrival;
-use plan_blocks::ends::LastEnds;
 use placement::layout::{Layout, Limits, MAX_TIME, Offsets, Rate};
 use placement::search::end_of;
+use plan_blocks::ends::LastEnds;
 
 /// Raises the last ends by what a placed frame sends.
 pub fn raise_sendings(

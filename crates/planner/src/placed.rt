@@ -12,10 +12,10 @@ use fit_rules::frame_plan::FramePlan;
 use frame_ways::frame_way::FrameWay;
 use irt_base::list::Items;
 use irt_base::memory::NoMemory;
-use plan_blocks::ends::LastEnds;
 use placement::gaps::Gaps;
 use placement::layout::{Limits, Offsets, Rate};
 use placement::record::add_frame;
+use plan_blocks::ends::LastEnds;
 use std::alloc::Global;
 
 /// The frames that are placed, their slots, and the last ends of what is sent and received, in ns.

@@ -32,11 +32,7 @@ pub struct TurnKey {
 }
 
 /// The turns of demands, as these stand.
-pub fn turns_of(
-    alloc: Global,
-    demands: &[Demand],
-    ways: &[FrameWay],
-) -> Result<Vec<Turn>, NoMemory>
+pub fn turns_of(alloc: Global, demands: &[Demand], ways: &[FrameWay]) -> Result<Vec<Turn>, NoMemory>
     requires same { length ways.now ≡ length demands.now }
     requires few { length demands.now ≤ MAX_DEMANDS }
     ensures { IfOk result (λ turns. AreTurns demands.now ways.now turns.items) }

@@ -1,4 +1,3 @@
-use Rattle.planner.specs.Placed.{limits_of}
 use Rattle.placement.specs.Placings.{rate_of}
 use Rattle.planner.proofs.Slots.{clear_slots}
 use Rattle.planner.proofs.step.place_in_gaps.Goals as goal

@@ -1,4 +1,3 @@
-use Rattle.std.proofs.Common.{arith}
 use Rattle.planner.proofs.Usable.{one_way}
 use Rattle.planner.proofs.ways.ways_of.Goals as goal
 
