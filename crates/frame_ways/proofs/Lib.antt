@@ -1,0 +1,14 @@
+pub mod Alone
+pub mod Anchored
+pub mod Bits
+pub mod Devices
+pub mod Growth
+pub mod Lists
+pub mod Made
+pub mod Most
+pub mod Onward
+pub mod Ports
+pub mod Reached
+pub mod Routed
+pub mod Sent
+pub mod Whole

@@ -1,1 +1,4 @@
+pub mod Entries
 pub mod FrameWays
+pub mod Layout
+pub mod Stops

@@ -1,5 +1,8 @@
 //! The way of a demand's frame in plain numbers: its entries, the sendings and arrivals by the offsets of anchors.
 #![tactic(auto)]
 
+mod entries;
 pub mod frame_way;
+mod layout;
+mod stops;
 pub mod way;
