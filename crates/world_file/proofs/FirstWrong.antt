@@ -46,7 +46,7 @@ delay_at (g ∷ gs) (m ∷ ms) zero f delay are there is =
 delay_at (g ∷ gs) (m ∷ ms) (suc n) f delay are there is = delay_at gs ms n f delay are.1 there is
 
 -- a place among plain numbers
-plain_at : (ns : List ℕ) (n : ℕ) (z : ℤ) → slice_get (map (λ k. pos k) ns) n ≡ Some z → (k : ℕ) × (slice_get ns n ≡ Some k) × (z ≡ pos k)
+pub plain_at : (ns : List ℕ) (n : ℕ) (z : ℤ) → slice_get (map (λ k. pos k) ns) n ≡ Some z → (k : ℕ) × (slice_get ns n ≡ Some k) × (z ≡ pos k)
 plain_at [] n z is = absurd (none-some z is)
 plain_at (k ∷ ks) zero z is = (k, refl, sym (same_Some (pos k) z is))
 plain_at (k ∷ ks) (suc n) z is = plain_at ks n z is

@@ -6,7 +6,9 @@ pub mod LineText
 pub mod Loops
 pub mod NumberTaken
 pub mod NumberText
+pub mod OneAnswer
 pub mod PlanBounds
 pub mod Values
+pub mod WholeFile
 pub mod WholeLine
 pub mod WorldRead

@@ -1,6 +1,6 @@
 //! Reading a world file.
 
-ghost use Rattle.std.specs.Prelude.{◌≡◌, ◌⊎◌, ◌≤◌, ◌+◌, ◌<◌, ◌^◌, ◌++◌, ℕ, List, IfOk, IfErr, length};
+ghost use Rattle.std.specs.Prelude.{◌≡◌, ◌⊎◌, ◌≤◌, ◌+◌, ◌<◌, ◌^◌, ◌++◌, ℕ, List, IfOk, IfErr, IsErrAnd, MatchResult, length};
 ghost use Rattle.std.specs.List.{AllByRecursion};
 ghost use Rattle.irt_base.specs.declared.blocks.Bundle.{Bundle};
 ghost use Rattle.irt_world.specs.declared.rows.World.{World};
@@ -8,7 +8,7 @@ ghost use Rattle.plan_rules.specs.Plan.{IsPlan};
 ghost use Rattle.irt_world.specs.Forwardings.{forwardings};
 ghost use Rattle.irt_world.specs.Rows.{Fits, IsRowOf};
 ghost use Rattle.world_file.specs.Text.{IsWorldFile, line_of, line_text};
-ghost use Rattle.world_file.specs.Wrong.{IsLineRefusal, IsRefusal};
+ghost use Rattle.world_file.specs.Wrong.{IsFirstWrong, IsLineRefusal, IsRefusal};
 ghost use Rattle.world_file.specs.Reading.{next_place, verdict_of};
 
 use crate::draft::Draft;
@@ -33,10 +33,32 @@ pub fn read_world(
 ) -> Result<World, WorldFault>
     requires plan { IsPlan plant.now bundles.now }
     requires cycles { cycles ≤ MAX_CYCLES }
-    // What is read is the file of a world that fits.
+    // What is read is the file of a world.
     ensures found { IfOk result (IsWorldFile plant.now bundles.now cycles bytes.now) }
     ensures fits { IfOk result (Fits plant.now bundles.now) }
+    // The file of a world is read as that world, unless memory runs out.
+    ensures only { (world : World) → IsWorldFile plant.now bundles.now cycles bytes.now world →
+        MatchResult result (λ found. found ≡ world) (λ e. e ≡ WorldFault.NoMemory) }
     // A refusal names the first line and place that are wrong.
+    ensures refused { IfErr result (IsRefusal plant.now bundles.now cycles bytes.now) }
+    // A wrong file is refused so, unless memory runs out.
+    ensures exact { (line place : ℕ) → IsFirstWrong plant.now bundles.now cycles bytes.now line place →
+        IsErrAnd result (λ e. (e ≡ WorldFault.NoMemory) ⊎ (e ≡ WorldFault.Refused line place)) }
+{
+    read_rows(alloc, bytes, plant, bundles, cycles)
+}
+
+/// Reads line by line.
+fn read_rows(
+    alloc: Global,
+    bytes: &[u8],
+    plant: &Plant,
+    bundles: &[Bundle],
+    cycles: u32,
+) -> Result<World, WorldFault>
+    requires plan { IsPlan plant.now bundles.now }
+    requires cycles { cycles ≤ MAX_CYCLES }
+    ensures found { IfOk result (IsWorldFile plant.now bundles.now cycles bytes.now) }
     ensures refused { IfErr result (IsRefusal plant.now bundles.now cycles bytes.now) }
 {
     let forwardings = Forwardings::new(alloc, plant, bundles)?;
