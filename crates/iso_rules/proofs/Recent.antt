@@ -1,5 +1,5 @@
 -- An image rests on the last cycles alone in which its frames are due.
-use Rattle.std.proofs.Common.{◌≡◌, ℕ, ◌+◌, ◌%◌, List, [], ◌∷◌, Option, Some, None, slice_get, refl, sym, ◌∙◌, ap}
+use Rattle.std.proofs.Common.{◌≡◌, ◌≤◌, ℕ, ◌+◌, ◌%◌, List, [], ◌∷◌, Option, Some, None, slice_get, refl, sym, ◌∙◌, ap}
 use Rattle.std.specs.List.{AllZip, Contains}
 use Rattle.std.specs.Option.{option_map_or}
 use Rattle.irt_base.specs.Cycle.{IsDue}
@@ -90,3 +90,25 @@ same_image plant bundles plan alike world other taken given device k image agree
           is.each;
       joined = is.joined;
     }
+
+-- what comes after the cycle does not matter, on any plan
+past_part : (setup : Setup) (world other : List WorldRow) (taken given : ℕ → ℕ → List ℕ) (device k : ℕ) (e : Entry) (part : List ℕ) →
+    ((c : ℕ) → c ≤ k → slice_get world c ≡ slice_get other c) → ((c app : ℕ) → c ≤ k → taken app c ≡ given app c) →
+    IsPart setup world taken device k e part → IsPart setup other given device k e part
+past_part setup world other taken given device k e part rows words is =
+    part_alike (λ n. HasToReach setup world n device e.frame.0) (λ n. HasToReach setup other n device e.frame.0)
+    (λ n. loaded_words setup taken n e.frame.0) (λ n. loaded_words setup given n e.frame.0) e k part
+    (λ n close reach. moved_reach setup world other n device e.frame.0 (rows n close.0) reach)
+    (λ n close reach. moved_reach setup other world n device e.frame.0 (sym (rows n close.0)) reach)
+    (λ n close reach. same_loaded setup taken given n e.frame.0 (λ app. words n app close.0))
+    is
+
+pub past_image : (setup : Setup) (world other : List WorldRow) (taken given : ℕ → ℕ → List ℕ) (device k : ℕ) (image : List ℕ) →
+    ((c : ℕ) → c ≤ k → slice_get world c ≡ slice_get other c) → ((c app : ℕ) → c ≤ k → taken app c ≡ given app c) →
+    IsImage setup world taken device k image → IsImage setup other given device k image
+past_image setup world other taken given device k image rows words is = record {
+  parts = is.parts;
+  each = zip_weaker (IsPart setup world taken device k) (IsPart setup other given device k) (consumed_of (entries_at setup device)) is.parts
+      (λ e part member. past_part setup world other taken given device k e part rows words) is.each;
+  joined = is.joined;
+}

@@ -1,6 +1,6 @@
 //! Laws of images and of runs.
 
-ghost use Rattle.std.specs.Prelude.{◌≡◌, ◌↔◌, ◌≤◌, ◌<◌, ◌-◌, ◌/◌, ℕ, List, length, Option, Some, Contains, AllPairs};
+ghost use Rattle.std.specs.Prelude.{◌≡◌, ◌↔◌, ◌≤◌, ◌<◌, ◌-◌, ◌/◌, ℕ, List, length, Option, Some, Contains, AllPairs, slice_get};
 ghost use Rattle.cycle_rows.specs.Journal.{IsJournal};
 ghost use Rattle.cycle_rows.specs.declared.rows.JournalRow.{JournalRow};
 ghost use Rattle.irt_base.specs.Cycle.{IsDue};
@@ -34,9 +34,14 @@ pub fn images_are_one()
         IsPlannedCycle setup world device e k c → IsPlannedCycle setup world device e l d → c ≤ d }
 {}
 
-/// On accepted plans an image rests, for each of its frames, on the last `HOLD_CYCLES` cycles alone in which the frame is
-/// due. After a cycle in which it is due, it is due once more with each `ratio` cycles.
+/// An image rests on the cycles up to its own alone, and on accepted plans, for each of its frames, on the last
+/// `HOLD_CYCLES` of these in which the frame is due. After a cycle in which it is due, it is due once more with each
+/// `ratio` cycles.
 pub fn images_rest_on_recent_cycles()
+    ensures past { (setup : Setup) (world other : List WorldRow) (taken given : ℕ → ℕ → List ℕ) (device k : ℕ)
+        (image : List ℕ) → ((c : ℕ) → c ≤ k → slice_get world c ≡ slice_get other c) →
+        ((c app : ℕ) → c ≤ k → taken app c ≡ given app c) →
+        IsImage setup world taken device k image → IsImage setup other given device k image }
     ensures recent { (plant : Plant) (bundles : List Bundle) → IsPlan plant bundles → IsAccepted plant bundles →
         (world other : List WorldRow) (taken given : ℕ → ℕ → List ℕ) (device k : ℕ) (image : List ℕ) →
         ((e : Entry) → Contains (consumed_of (entries_at (setup_of plant bundles) device)) e →
