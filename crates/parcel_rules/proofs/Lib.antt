@@ -2,3 +2,4 @@ pub mod Lists
 pub mod Ports
 pub mod Free
 pub mod Apart
+pub mod Example
