@@ -105,13 +105,13 @@ module _ (plant : Plant) (bundles : List Bundle) (world : List WorldRow) (walks 
 -- ---- what a port sends
 
 module _ (plant : Plant) (bundles : List Bundle) (row : WorldRow) (k : ℕ) (gates : Gates) where
-  record IsSending (at : Step) (sent : List Sent) : Type 0 where
-    b : Bundle
-    tx : Period
-    ready : IsReady plant bundles row k at b tx
-    list : sent ≡ sent_of (begun_gate b tx (gate_at gates at))
+  pub record IsSending (at : Step) (sent : List Sent) : Type 0 where
+    pub b : Bundle
+    pub tx : Period
+    pub ready : IsReady plant bundles row k at b tx
+    pub list : sent ≡ sent_of (begun_gate b tx (gate_at gates at))
 
-  abbrev Sends : Step → List Sent → Type 0
+  abbrev pub Sends : Step → List Sent → Type 0
   Sends at sent = (sent ≡ []) ⊎ IsSending at sent
 
   by_period : (at : Step) (b : Bundle) → is_in_step plant row at.0.0 ≡ true → slice_get bundles at.0.0 ≡ Some b → (o : Option Period) →
@@ -130,7 +130,7 @@ module _ (plant : Plant) (bundles : List Bundle) (row : WorldRow) (k : ℕ) (gat
   by_step at true is = by_bundle at is (slice_get bundles at.0.0) refl
   by_step at false is = inl refl
 
-  sends_of : (at : Step) → Sends at (sends plant bundles row k gates at)
+  pub sends_of : (at : Step) → Sends at (sends plant bundles row k gates at)
   sends_of at = by_step at (is_in_step plant row at.0.0) refl
 
 -- ---- rows of what is sent

@@ -3,3 +3,10 @@ pub mod Ports
 pub mod Free
 pub mod Apart
 pub mod Example
+pub mod Sums
+pub mod Wires
+pub mod Links
+pub mod Placed
+pub mod Queues
+pub mod Balance
+pub mod Sending
