@@ -1,0 +1,6 @@
+pub mod Clocks
+pub mod Domain
+pub mod Events
+pub mod Lines
+pub mod Report
+pub mod World
