@@ -1,0 +1,14 @@
+mod Bases
+mod Bounds
+mod Domains
+mod Exchanges
+mod Made
+mod Median
+mod Reports
+mod Rows
+mod Slaves
+mod Steps
+mod Tables
+mod Totals
+mod Walks
+mod Worlds

@@ -1,10 +1,10 @@
 -- The clocks of a domain, cycle by cycle. Errors are ns after the truth.
-use Rattle.std.specs.Prelude.{ℕ, zero, suc, ◌+◌, ◌-◌, ◌*◌, ◌/◌, ◌%◌, ◌==◌, ℤ, pos, ◌+ℤ◌, ◌-ℤ◌, Bool, true, ◌&&◌, not, nat_lt, if◌then◌else◌, List, [], ◌∷◌, drop, Option, Some, None}
-use Rattle.std.specs.List.{list_any}
+use Rattle.std.specs.Prelude.{ℕ, zero, suc, ◌+◌, ◌-◌, ◌*◌, ◌/◌, ◌%◌, ◌==◌, ℤ, pos, ◌+ℤ◌, ◌-ℤ◌, Bool, true, ◌&&◌, not, nat_lt, if◌then◌else◌, List, [], ◌∷◌, drop, map, Option, Some, None, unwrap_or}
+use Rattle.std.specs.List.{list_any, range_with_len}
 use Rattle.irt_base.specs.declared.numbers.DevId.{DevId}
 use Rattle.seed_draws.specs.Draws.{draw_of, signed_within}
 use Rattle.sync_world.specs.Domain.{walk_of}
-use Rattle.sync_world.specs.Lines.{passage}
+use Rattle.sync_world.specs.Lines.{passage_of}
 use Rattle.sync_world.specs.declared.clocks.Clock.{Clock}
 use Rattle.sync_world.specs.declared.clocks.TheConstants.{ARRIVALS, DEPARTURES, DRIFTS}
 use Rattle.sync_world.specs.declared.domain.Domain.{Domain}
@@ -38,7 +38,8 @@ abbrev pub base_by : (DevId → Passage) → List DevId → ℤ → Option ℤ
 base_by at walk ends = if is_lost_on at walk then None else Some (travel_error at walk +ℤ ends)
 
 unfoldable pub base_of : Domain → ℕ → ℕ → Option ℤ
-base_of domain device sync = base_by (λ v. passage domain v.0 sync) (walk_of domain device) (ends_error domain device sync)
+base_of domain device sync =
+    base_by (λ v. passage_of domain v.0 sync) (walk_of domain device) (ends_error domain device sync)
 
 -- the same, of the sync message of a cycle, if there is one
 abbrev pub base_in : Domain → ℕ → ℕ → Option ℤ
@@ -51,7 +52,10 @@ set_by clock cycle (Some base) = record { error = base; heard = Some cycle }
 
 abbrev pub drifted : Domain → ℕ → ℕ → Clock → Clock
 drifted domain device cycle clock =
-    record { error = clock.error +ℤ signed_within (draw_of domain.seed DRIFTS device cycle) domain.drift; heard = clock.heard }
+    record {
+      error = clock.error +ℤ signed_within (draw_of domain.seed DRIFTS device cycle) domain.drift;
+      heard = clock.heard;
+    }
 
 -- a cycle later
 abbrev pub later : Domain → ℕ → ℕ → Clock → Clock
@@ -64,6 +68,10 @@ first_clock = record { error = pos 0; heard = None }
 unfoldable pub clock_at : Domain → ℕ → ℕ → Clock
 clock_at domain device zero = first_clock
 clock_at domain device (suc cycle) = later domain device cycle (clock_at domain device cycle)
+
+-- how long ago a sync message last set the clock, in cycles
+abbrev pub age_of : Clock → ℕ → ℕ
+age_of clock cycle = cycle - unwrap_or clock.heard 0
 
 -- no sync message reached the clock before a cycle, or the last one more than so many cycles before
 abbrev pub is_silent : Option ℕ → ℕ → ℕ → Bool
@@ -83,3 +91,7 @@ clock_error domain device cycle = if device == 0 then pos 0 else (clock_at domai
 unfoldable pub heard_error : Domain → ℕ → ℕ → ℕ → Option ℤ
 heard_error domain timeout device cycle =
     if is_mute domain timeout device cycle then None else Some (clock_error domain device cycle)
+
+-- the errors of a device in the first so many cycles
+abbrev pub heard_errors : Domain → ℕ → ℕ → ℕ → List (Option ℤ)
+heard_errors domain timeout device cycles = map (heard_error domain timeout device) (range_with_len 0 cycles)

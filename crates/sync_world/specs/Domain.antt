@@ -14,7 +14,8 @@ use Rattle.sync_world.specs.declared.domain.Domain.{Domain}
 -- the delay of the link at a port, 0 where there is none
 abbrev pub link_delay : Plant → ℕ → ℕ → ℕ
 link_delay plant device port =
-    unwrap_or (option_map (λ (l : Link). l.delay) (option_and_then (slice_get plant.links) (link_number plant device port))) 0
+    unwrap_or
+    (option_map (λ (l : Link). l.delay) (option_and_then (slice_get plant.links) (link_number plant device port))) 0
 
 -- the delay of the link from a parent's port, and the parent's device, which is device 0 where there is no parent
 abbrev pub delay_from : Plant → Option (DevId × PortNo) → ℕ

@@ -20,10 +20,12 @@ AreInTurn send deliveries =
 -- the message of a cycle, where it sets the device's clock to an error
 abbrev pub delivered : Deliveries → ℕ → Option ℤ → List SyncEvent
 delivered deliveries sync None = []
-delivered deliveries sync (Some base) = Sync (deliveries.msg sync) (deliveries.received sync) (deliveries.line sync) ∷ []
+delivered deliveries sync (Some base) =
+    Sync (deliveries.msg sync) (deliveries.received sync) (deliveries.line sync) ∷ []
 
 -- the ticks up to a cycle, each followed by the message that reached the device in its cycle
 unfoldable pub events_to : Domain → Deliveries → ℕ → ℕ → List SyncEvent
 events_to domain deliveries device zero = Tick 0 ∷ []
 events_to domain deliveries device (suc cycle) =
-    (events_to domain deliveries device cycle ++ delivered deliveries (cycle / domain.send) (base_in domain device cycle)) ++ Tick (suc cycle) ∷ []
+    (events_to domain deliveries device cycle
+    ++ delivered deliveries (cycle / domain.send) (base_in domain device cycle)) ++ Tick (suc cycle) ∷ []

@@ -1,7 +1,10 @@
 -- Exchanges over the link from a device to its parent, and what a sync message meets there.
-use Rattle.std.specs.Prelude.{ℕ, ◌+◌, ◌-◌, ◌*◌, ◌/◌, ◌%◌, ◌==◌, Bool, ◌&&◌, not, nat_lt, nat_le, List, [], map, length, find, unwrap_or, count_by}
+use Rattle.std.specs.Prelude.{ℕ, ◌+◌, ◌-◌, ◌*◌, ◌/◌, ◌%◌, ◌==◌, Bool, ◌&&◌, not, nat_lt, nat_le, ℤ, Result, List, [], map, length, find, unwrap_or, count_by}
+use Rattle.std.specs.Int.{div_ceil}
 use Rattle.std.specs.List.{range_with_len}
 use Rattle.line_delay.specs.Honest.{Stamps, after_all}
+use Rattle.line_delay.specs.Line.{half_round}
+use Rattle.line_delay.specs.declared.line.LineFault.{LineFault}
 use Rattle.seed_draws.specs.Draws.{draw_of, signed_within}
 use Rattle.sync_world.specs.Domain.{delay_of}
 use Rattle.sync_world.specs.declared.domain.Domain.{Domain}
@@ -26,6 +29,10 @@ exchanged domain device exchange = record {
   t3 = stamped domain device exchange 3 (begun exchange + delay_of domain device + STAY_TIME);
   t4 = stamped domain device exchange 4 (begun exchange + 2 * delay_of domain device + STAY_TIME);
 }
+
+-- the half round of stamps, or why they are refused
+abbrev pub half_by : Stamps → Result ℕ LineFault
+half_by s = half_round s.t1 s.t2 s.t3 s.t4
 
 -- the half rounds that count after so many exchanges
 unfoldable pub halves_after : Domain → ℕ → ℕ → List ℕ
@@ -53,18 +60,31 @@ measured_at domain device sync = measured domain device (FIRST_EXCHANGES + sync 
 abbrev pub is_lost : Domain → ℕ → ℕ → Bool
 is_lost domain device sync = not (domain.loss == 0) && (draw_of domain.seed LOSSES device sync % domain.loss == 0)
 
+-- by how much a device that relays it is wrong on its stay
+abbrev pub stay_error : Domain → ℕ → ℕ → ℤ
+stay_error domain device sync = signed_within (draw_of domain.seed STAYS device sync) (2 * domain.stamp)
+
 -- what a sync message meets at a device
-unfoldable pub passage : Domain → ℕ → ℕ → Passage
-passage domain device sync = record {
+unfoldable pub passage_of : Domain → ℕ → ℕ → Passage
+passage_of domain device sync = record {
   known = measured_at domain device sync;
   delay = delay_of domain device;
-  stay = signed_within (draw_of domain.seed STAYS device sync) (2 * domain.stamp);
+  stay = stay_error domain device sync;
   lost = is_lost domain device sync;
 }
 
 -- what the first so many meet there
 abbrev pub line_passages : Domain → ℕ → ℕ → LinePassages
 line_passages domain syncs device = record {
-  passages = map (passage domain device) (range_with_len 0 syncs);
+  passages = map (passage_of domain device) (range_with_len 0 syncs);
   known = measured domain device (FIRST_EXCHANGES + syncs);
 }
+
+-- how many sync messages are sent in so many cycles: every 4 cycles, 3 in 9 to 12
+abbrev pub syncs_in : Domain → ℕ → ℕ
+syncs_in domain cycles = div_ceil cycles domain.send
+
+-- what all of them meet, by device
+abbrev pub all_passages : Domain → ℕ → List LinePassages
+all_passages domain cycles =
+    map (line_passages domain (syncs_in domain cycles)) (range_with_len 0 (length domain.lines))

@@ -5,20 +5,13 @@ use Rattle.std.specs.List.{range_with_len, flat_map}
 use Rattle.irt_base.specs.declared.plants.Device.{Device}
 use Rattle.irt_base.specs.declared.plants.Plant.{Plant}
 use Rattle.irt_route.specs.Clocks.{ClockTable, clock_budget, hops_in}
-use Rattle.sync_world.specs.Clocks.{heard_error}
+use Rattle.sync_world.specs.Clocks.{heard_errors}
 use Rattle.sync_world.specs.Domain.{delay_of, domain_of}
-use Rattle.sync_world.specs.Lines.{measured}
+use Rattle.sync_world.specs.Lines.{measured, syncs_in}
 use Rattle.sync_world.specs.declared.domain.Domain.{Domain}
+use Rattle.sync_world.specs.declared.lines.LinePassages.{LinePassages}
 use Rattle.sync_world.specs.declared.lines.TheConstants.{FIRST_EXCHANGES}
 use Rattle.sync_world.specs.declared.report.ReportLine.{ReportLine}
-
--- how many sync messages are sent in so many cycles: every 4 cycles, 3 in 9 to 12
-abbrev pub syncs_in : ℕ → ℕ → ℕ
-syncs_in send cycles = (cycles + send - 1) / send
-
--- the errors of a device in the first so many cycles
-abbrev pub heard_errors : Domain → ℕ → ℕ → ℕ → List (Option ℤ)
-heard_errors domain timeout device cycles = map (heard_error domain timeout device) (range_with_len 0 cycles)
 
 -- in how many cycles it was muted
 abbrev pub muted_in : List (Option ℤ) → ℕ
@@ -26,11 +19,19 @@ muted_in [] = 0
 muted_in (None ∷ more) = suc (muted_in more)
 muted_in (Some error ∷ more) = muted_in more
 
+-- how great an error is, either way, 0 where it was muted
+abbrev pub size_of : Option ℤ → ℕ
+size_of None = 0
+size_of (Some error) = unsigned_abs error
+
 -- the greatest error, either way, of those that it had when it wasn't muted
 abbrev pub worst_in : List (Option ℤ) → ℕ
 worst_in [] = 0
-worst_in (None ∷ more) = worst_in more
-worst_in (Some error ∷ more) = max (unsigned_abs error) (worst_in more)
+worst_in (error ∷ more) = max (size_of error) (worst_in more)
+
+-- what is known of a delay at the end, by a table
+abbrev pub known_in : List LinePassages → ℕ → ℕ
+known_in table device = unwrap_or (option_map (λ (l : LinePassages). l.known) (slice_get table device)) 0
 
 -- what is said of a device
 unfoldable pub report_line : Plant → ClockTable → Domain → ℕ → ℕ → ReportLine
@@ -38,7 +39,7 @@ report_line plant tree domain cycles device = record {
   device = record { 0 = device };
   hops = hops_in tree device;
   delay = delay_of domain device;
-  measured = measured domain device (FIRST_EXCHANGES + syncs_in domain.send cycles);
+  measured = measured domain device (FIRST_EXCHANGES + syncs_in domain cycles);
   budget = clock_budget tree plant.sync device plant.sync.send plant.sync.timeout;
   muted = muted_in (heard_errors domain plant.sync.timeout device cycles);
   worst = worst_in (heard_errors domain plant.sync.timeout device cycles);
@@ -47,7 +48,8 @@ report_line plant tree domain cycles device = record {
 -- the lines of the devices from 1
 abbrev pub report_lines : ℕ → Plant → ClockTable → ℕ → List ReportLine
 report_lines seed plant tree cycles =
-    map (report_line plant tree (domain_of seed plant tree plant.sync.send) cycles) (range_with_len 1 (length plant.devices - 1))
+    map (report_line plant tree (domain_of seed plant tree plant.sync.send) cycles)
+    (range_with_len 1 (length plant.devices - 1))
 
 -- the name of a device
 abbrev pub name_of : Plant → ℕ → List ℕ
@@ -60,7 +62,8 @@ spaced n = 32 ∷ decimal n
 -- the numbers of a line, ended by a line feed: ` 1 500 496 169 1 25`
 abbrev pub numbers_text : ReportLine → List ℕ
 numbers_text l =
-    spaced l.hops ++ spaced l.delay ++ spaced l.measured ++ spaced l.budget ++ spaced l.muted ++ spaced l.worst ++ 10 ∷ []
+    spaced l.hops ++ spaced l.delay ++ spaced l.measured ++ spaced l.budget ++ spaced l.muted ++ spaced l.worst
+    ++ 10 ∷ []
 
 abbrev pub line_text : Plant → ReportLine → List ℕ
 line_text plant l = name_of plant l.device.0 ++ numbers_text l

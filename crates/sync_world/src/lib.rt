@@ -8,6 +8,8 @@
 
 pub mod clocks;
 pub mod domain;
+pub mod law;
 pub mod lines;
 pub mod report;
+mod table;
 pub mod world;

@@ -1,0 +1,42 @@
+//! The laws of domains.
+
+ghost use Rattle.std.specs.Prelude.{ℕ, ◌*◌, ◌≤◌, ◌<◌, ◌↔◌, ◌≡◌, pos, length, true};
+ghost use Rattle.irt_base.specs.Cycle.{IsNear, budget_time};
+ghost use Rattle.plan_rules.specs.World.{IsWithinWindow};
+ghost use Rattle.ptcp_core.specs.Clocks.{fresh_slave, state_of};
+ghost use Rattle.ptcp_core.specs.Honest.{after_all};
+ghost use Rattle.ptcp_core.specs.declared.slave.SyncState.TheVariants as states;
+ghost use Rattle.sync_world.specs.Clocks.{age_of, clock_at, is_mute};
+ghost use Rattle.sync_world.specs.Domain.{IsDomain, delay_of, walk_of};
+ghost use Rattle.sync_world.specs.Events.{AreInTurn, Deliveries, events_to};
+ghost use Rattle.sync_world.specs.Lines.{measured};
+ghost use Rattle.sync_world.specs.declared.domain.Domain.{Domain};
+
+use line_delay::honest::honest_law;
+use ptcp_core::honest::slave_law;
+
+/// What is known of a link's delay after one exchange or more is wrong by at most twice the error of a stamp. A clock
+/// is wrong by at most what the errors of stamps make on its walk, and a drift for each cycle since it was last set.
+pub fn domains_have_bounds()
+    ensures known { (domain : Domain) (device count : ℕ) → IsDomain domain → 1 ≤ count →
+        IsNear (2 * domain.stamp) (measured domain device count) (delay_of domain device) }
+    ensures clock { (domain : Domain) (device cycle : ℕ) → IsDomain domain →
+        IsWithinWindow (clock_at domain device cycle).error
+        (pos (budget_time (length (walk_of domain device)) domain.stamp domain.drift 1
+        (age_of (clock_at domain device cycle) cycle))) }
+{
+    honest_law();
+}
+
+/// A device other than device 0 is muted in a cycle exactly where a slave with the same send and timeout is, once it
+/// was given the sync messages that reached the device in the cycles before, and the ticks up to this one, in their
+/// order. What the messages say beside their number and cycle may be anything.
+pub fn devices_mute_as_slaves()
+    ensures { (domain : Domain) (deliveries : Deliveries) (timeout device cycle : ℕ) → 0 < device →
+        AreInTurn domain.send deliveries →
+        ((is_mute domain timeout device cycle ≡ true) ↔
+        (state_of (after_all (fresh_slave domain.send timeout) (events_to domain deliveries device cycle)) ≡
+        states.Muted)) }
+{
+    slave_law();
+}
