@@ -10,3 +10,5 @@ pub mod Placed
 pub mod Queues
 pub mod Balance
 pub mod Sending
+pub mod Whole
+pub mod Fate
