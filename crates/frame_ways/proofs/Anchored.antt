@@ -1,5 +1,5 @@
 -- The anchors of stops, one by one.
-use Rattle.std.proofs.Common.{◌≡◌, ◌≢◌, ◌+◌, ◌<◌, ◌≤◌, ◌⊎◌, ◌++◌, ◌∷◌, [], ℕ, inl, inr, List, Option, Some, None, length, get_or, AllPairs, refl, sym, ◌∙◌, ap, subst, arith}
+use Rattle.std.proofs.Common.{◌≡◌, ◌≢◌, ◌+◌, ◌<◌, ◌≤◌, ◌++◌, ◌∷◌, [], ℕ, inl, inr, List, Option, Some, None, length, get_or, refl, sym, ◌∙◌, ap, subst, arith}
 use Rattle.std.specs.Prelude.{slice_get, IfSome}
 use Rattle.std.proofs.lemmas.Bool.{cases_lt}
 use Rattle.std.proofs.lemmas.List.{length_push}
@@ -13,7 +13,7 @@ use Rattle.placement.specs.declared.layout.Anchor.{Anchor}
 use Rattle.frame_ways.specs.declared.frame_way.Arrival.{Arrival}
 use Rattle.frame_ways.specs.declared.stops.Stop.{Stop}
 use Rattle.frame_ways.specs.Layout.{IsUsableStop, HasAfter, IsAnchorBefore, AreAnchorsTo}
-use Rattle.frame_ways.specs.Stops.{IsStarter, HasStarter, AreApart}
+use Rattle.frame_ways.specs.Stops.{IsStarter, HasStarter, StopsDiffer}
 use Rattle.frame_ways.proofs.Lists.{get_more, get_kept, get_last, pair_at}
 
 abbrev Differ : Anchor → Anchor → Type 0
@@ -56,7 +56,7 @@ module _ (plant : Plant) (stops : List Stop) where
         subst (StandsBefore (anchors ++ new ∷ []) (length anchors)) (starter.here ∙ ap (λ (a : DevId). a.0) (sym same))
         (stands_kept anchors new (length anchors) (length anchors) starter.s.device.0 (omega arith) stands)
 
-    pub anchor_more : AreApart stops → IsUsableStop plant stops i s → IsStarter plant s.device.0 s.entry → (after : Option After) → HasAfter plant s after →
+    pub anchor_more : StopsDiffer stops → IsUsableStop plant stops i s → IsStarter plant s.device.0 s.entry → (after : Option After) → HasAfter plant s after →
         AreAnchorsTo plant stops (i + 1) (anchors ++ anchor_of s after ∷ [])
     anchor_more apart usable starts after has =
         let new = anchor_of s after in

@@ -1,6 +1,6 @@
 -- The bits of `tx`.
-use Rattle.std.proofs.Common.{◌≡◌, ◌≢◌, ◌+◌, ◌*◌, ◌%◌, ◌^◌, ◌<◌, ◌≤◌, ◌↔◌, ◌⊎◌, ℕ, zero, suc, inl, inr, Bool, true, false, true≢false, sym, ◌∙◌, ap, subst, arith, refl, IsBitSet, w8}
-use Rattle.std.specs.Prelude.{IsTrue, bit_or}
+use Rattle.std.proofs.Common.{◌≡◌, ◌+◌, ◌*◌, ◌%◌, ◌^◌, ◌<◌, ◌≤◌, ◌↔◌, ℕ, zero, suc, inl, inr, Bool, true, false, true≢false, sym, ◌∙◌, ap, subst, arith, refl, IsBitSet, w8}
+use Rattle.std.specs.Prelude.{bit_or}
 use Rattle.std.specs.Int.{bit_at}
 use mir.Val.{bits}
 use Rattle.std.proofs.lemmas.Bool.{cases_eq, cases_lt}

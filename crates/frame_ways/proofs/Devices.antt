@@ -1,8 +1,8 @@
 -- Devices of a plant, and how many stops there are.
-use Rattle.std.proofs.Common.{◌≡◌, ◌≢◌, ◌*◌, ◌<◌, ◌≤◌, ℕ, zero, suc, inl, inr, Bool, true, false, true≢false, List, [], ◌∷◌, Some, length, get_or, map, eqb, AllPairs, refl, sym, ◌∙◌, ap, subst, arith}
-use Rattle.std.specs.Prelude.{slice_get, ◌||◌}
+use Rattle.std.proofs.Common.{◌≡◌, ◌≢◌, ◌*◌, ◌<◌, ◌≤◌, ℕ, suc, inl, inr, true, false, true≢false, List, [], ◌∷◌, Some, length, get_or, map, eqb, refl, sym, arith}
+use Rattle.std.specs.Prelude.{slice_get}
 use Rattle.std.specs.List.{AllByRecursion, IsDistinct, list_any}
-use Rattle.std.proofs.lemmas.Bool.{cases_Bool, or_cases, eqb-true, both_ways}
+use Rattle.std.proofs.lemmas.Bool.{cases_Bool, or_cases, eqb-true}
 use Rattle.std.proofs.lemmas.List.{length-map}
 use Rattle.std.proofs.lemmas.Map.Steps.{length-le_from_distinct_below}
 use Rattle.irt_base.specs.declared.plants.Device.{Device}
@@ -10,7 +10,7 @@ use Rattle.irt_base.specs.declared.plants.Plant.{Plant}
 use Rattle.plant_rules.specs.Meets.{MeetsRules, IsDevice}
 use Rattle.fit_rules.specs.declared.frame_plan.FramePlan.{FramePlan}
 use Rattle.frame_ways.specs.declared.stops.Stop.{Stop}
-use Rattle.frame_ways.specs.Stops.{IsEntryTree, AreApart, AreStopsTo}
+use Rattle.frame_ways.specs.Stops.{IsEntryTree, StopsDiffer, AreStopsTo}
 use Rattle.frame_ways.proofs.Lists.{each_at, read_within}
 
 pub device_rules : (plant : Plant) → MeetsRules plant → (n : ℕ) (d : Device) → slice_get plant.devices n ≡ Some d → IsDevice d
@@ -28,7 +28,7 @@ all_other device [] other = tt
 all_other device (s ∷ rest) other =
     (unlike device s.device.0 (other 0 s (omega arith)), all_other device rest (λ k d less. other (suc k) d (omega arith)))
 
-distinct : (stops : List Stop) → AreApart stops → IsDistinct eqb (devices_of stops)
+distinct : (stops : List Stop) → StopsDiffer stops → IsDistinct eqb (devices_of stops)
 unfolding IsDistinct
 distinct [] apart = tt
 distinct (s ∷ rest) apart = (

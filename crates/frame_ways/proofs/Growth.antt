@@ -1,8 +1,6 @@
 -- The list of stops, as it grows.
-use Rattle.std.proofs.Common.{◌≡◌, ◌≢◌, ◌+◌, ◌*◌, ◌^◌, ◌<◌, ◌≤◌, ◌⊎◌, ◌++◌, ◌∷◌, [], ℕ, zero, suc, inl, inr, List, Option, Some, None, length, get_or, AllPairs, refl, sym, ◌∙◌, ap, subst, arith}
+use Rattle.std.proofs.Common.{◌≡◌, ◌≢◌, ◌+◌, ◌*◌, ◌<◌, ◌≤◌, ◌++◌, ◌∷◌, [], ℕ, zero, suc, inl, inr, List, Option, Some, None, length, get_or, refl, sym, ◌∙◌, ap, subst, arith}
 use Rattle.std.specs.Prelude.{slice_get}
-use Rattle.std.proofs.lemmas.Bool.{cases_lt}
-use Rattle.std.proofs.lemmas.List.{length_push}
 use Rattle.std.proofs.lemmas.List.Quantifiers.{all_pairs_push}
 use Rattle.std.proofs.lemmas.Option.{same_Some, slice_get_within, slice_get-get_or}
 use Rattle.irt_base.specs.Wiring.{peer_of}
@@ -10,24 +8,23 @@ use Rattle.irt_base.specs.declared.blocks.Entry.{Entry}
 use Rattle.irt_base.specs.declared.numbers.DevId.{DevId}
 use Rattle.irt_base.specs.declared.numbers.PortNo.{PortNo}
 use Rattle.irt_base.specs.declared.plants.Plant.{Plant}
-use Rattle.plan_rules.specs.SendWindow.{SendWindow, HasWindow, at_anchor, behind}
+use Rattle.plan_rules.specs.SendWindow.{HasWindow, at_anchor, behind}
 use Rattle.plan_rules.specs.Way.{Setup, entry_at, Leaves, IsAnchor, IsParent}
 use Rattle.fit_rules.specs.declared.frame_plan.FramePlan.{FramePlan}
 use Rattle.fit_rules.specs.Shape.{alone, entry_of}
 use Rattle.frame_ways.specs.declared.frame_way.Arrival.{Arrival}
 use Rattle.frame_ways.specs.declared.stops.Stop.{Stop}
-use Rattle.frame_ways.specs.Stops.{IsStarter, IsEntryTree, IsListed, IsAdded, IsFirstStop, IsOwnStart, IsLaterStart, IsNextStop, window_of, HasLinks, HasStarter, IsComing, Comes, IsStopAt, Precedes, AreApart, AreStopsTo}
+use Rattle.frame_ways.specs.Stops.{IsEntryTree, IsListed, IsAdded, IsFirstStop, IsNextStop, stop_window, HasLinks, HasStarter, ArrivesAs, MayArriveAs, IsStopAt, Precedes, AreStopsTo}
 use Rattle.frame_ways.proofs.Alone.{entry_stands}
-use Rattle.frame_ways.proofs.Bits.{leaves_low}
 use Rattle.frame_ways.proofs.Lists.{get_more, get_kept, get_last}
-use Rattle.frame_ways.proofs.Sent.{port_more, before_more}
+use Rattle.frame_ways.proofs.Sent.{port_more}
 
 abbrev Apart : Stop → Stop → Type 0
 Apart s t = s.device.0 ≢ t.device.0
 
 -- the window of a device that starts by an offset 0
 window_own : (setup : Setup) (frame : ℕ) (s : Stop) → entry_at setup s.device.0 frame ≡ Some s.entry → IsAnchor setup s.device.0 s.entry → s.entry.send_offset ≡ 0 →
-    s.anchor ≡ s.device → s.least ≡ 0 → s.greatest ≡ 0 → HasWindow setup frame s.device.0 (window_of s)
+    s.anchor ≡ s.device → s.least ≡ 0 → s.greatest ≡ 0 → HasWindow setup frame s.device.0 (stop_window s)
 window_own setup frame s at starts zeroth anchor least greatest =
     let low : s.entry.send_offset ≡ s.least = zeroth ∙ sym least in
     let high : s.entry.send_offset ≡ s.greatest = zeroth ∙ sym greatest in
@@ -40,8 +37,8 @@ starter_kept : (plant : Plant) (stops : List Stop) (new : Stop) (count more anch
 starter_kept plant stops new count more anchor up is =
     record { n = is.n; s = is.s; before = omega (arith, is.before); there = get_kept stops new is.n is.s is.there; here = is.here; starts = is.starts }
 
-comes_kept : (plant : Plant) (base : FramePlan) (stops : List Stop) (new : Stop) (n : ℕ) (s : Stop) (o : Option Arrival) → Comes plant base stops n s o →
-    Comes plant base (stops ++ new ∷ []) n s o
+comes_kept : (plant : Plant) (base : FramePlan) (stops : List Stop) (new : Stop) (n : ℕ) (s : Stop) (o : Option Arrival) → MayArriveAs plant base stops n s o →
+    MayArriveAs plant base (stops ++ new ∷ []) n s o
 comes_kept plant base stops new n s None is = is
 comes_kept plant base stops new n s (Some x) is = record {
   hop = is.hop;
@@ -99,7 +96,7 @@ module _ (plant : Plant) (base : FramePlan) (tree : IsEntryTree plant base) wher
         links = subst (λ n. HasLinks (alone plant base) base.frame.0 n s.device.0) (sym first.hops) (s.entry, own, first.provided);
         few = omega (arith, first.hops);
         starter = record { n = 0; s = s; before = omega arith; there = refl; here = ap (λ (d : DevId). d.0) (sym home); starts = inl first.provided };
-        comes = subst (Comes plant base (s ∷ []) 0 s) (sym first.arrival) first.provided;
+        comes = subst (MayArriveAs plant base (s ∷ []) 0 s) (sym first.arrival) first.provided;
       }
 
       alone_first : (s : Stop) → entry_of base s.device.0 ≡ Some s.entry → entry_at (alone plant base) s.device.0 base.frame.0 ≡ Some s.entry → s.anchor ≡ s.device →
@@ -119,7 +116,7 @@ module _ (plant : Plant) (base : FramePlan) (tree : IsEntryTree plant base) wher
     stands_next : (s : Stop) → IsNextStop plant base stop port s → entry_of base s.device.0 ≡ Some s.entry
     stands_next s next = subst (λ (d : DevId). entry_of base d.0 ≡ Some s.entry) (sym next.behind.device) next.stands
 
-    window_next : Leaves stop.entry port → (s : Stop) (next : IsNextStop plant base stop port s) → HasWindow (alone plant base) base.frame.0 s.device.0 (window_of s)
+    window_next : Leaves stop.entry port → (s : Stop) (next : IsNextStop plant base stop port s) → HasWindow (alone plant base) base.frame.0 s.device.0 (stop_window s)
     window_next leaves s next =
         let stands = stands_next s next in
         let own = stands_alone s.device.0 s.entry stands in
@@ -130,7 +127,7 @@ module _ (plant : Plant) (base : FramePlan) (tree : IsEntryTree plant base) wher
               let high = sym later.greatest in
               let home = sym later.anchor in
               subst (HasWindow (alone plant base) base.frame.0 s.device.0) (λ i. record { lo = low i; hi = high i; anchor = (home i).0 })
-              (behind s.device.0 s.entry stop.device.0 port next.hop (window_of stop) later.d own later.relays (parent_of leaves s next) (are.each at stop there).window next.hops later.held)
+              (behind s.device.0 s.entry stop.device.0 port next.hop (stop_window stop) later.d own later.relays (parent_of leaves s next) (are.each at stop there).window next.hops later.held)
         ]
 
     bounds_next : (s : Stop) → at < length stops → (next : IsNextStop plant base stop port s) → (s.least ≤ s.greatest) × (s.greatest ≤ length stops * 400000)
@@ -154,11 +151,11 @@ module _ (plant : Plant) (base : FramePlan) (tree : IsEntryTree plant base) wher
     ]
 
     coming_next : Leaves stop.entry port → (s : Stop) → at < length stops → (next : IsNextStop plant base stop port s) →
-        IsComing plant base (stops ++ s ∷ []) (length stops) s next.x
+        ArrivesAs plant base (stops ++ s ∷ []) (length stops) s next.x
     coming_next leaves s within next =
         let from = are.each at stop there in record {
           hop = next.hop;
-          w = window_of stop;
+          w = stop_window stop;
           device = sym next.behind.device;
           comes = record {
             parent = stop.device.0;
@@ -191,7 +188,7 @@ module _ (plant : Plant) (base : FramePlan) (tree : IsEntryTree plant base) wher
               (s.entry, stop.device.0, port, stands_alone s.device.0 s.entry stands, parent_of leaves s next, from.links);
           few = omega (arith, from.few, within, next.behind.hops);
           starter = starter_next s within next;
-          comes = subst (Comes plant base (stops ++ s ∷ []) (length stops) s) (sym next.behind.arrival) (coming_next leaves s within next);
+          comes = subst (MayArriveAs plant base (stops ++ s ∷ []) (length stops) s) (sym next.behind.arrival) (coming_next leaves s within next);
         }
 
     -- the far end of the port is the next stop's device
@@ -236,29 +233,6 @@ module _ (plant : Plant) (base : FramePlan) (tree : IsEntryTree plant base) wher
       apart = are.apart;
       first = are.first;
       next = far_done stops (λ device is. is) (λ _ end leads. (m, old, at_m, same ∙ far_next s next end leads));
-    }
-
-    pub stop_skipped : ¬ Leaves stop.entry port → AreStopsTo plant base stops at (port + 1)
-    stop_skipped stays = record {
-      each = are.each;
-      apart = are.apart;
-      first = are.first;
-      next = far_done stops (λ device is. is) (λ out end leads. absurd (stays out));
-    }
-
-    -- all ports of a stop are done
-    pub stop_done : port ≡ 8 → AreStopsTo plant base stops (at + 1) 0
-    stop_done all = record {
-      each = are.each;
-      apart = are.apart;
-      first = are.first;
-      next = λ n by t far stands before out over. elim (cases_lt n at) [
-        | inl less ↦ are.next n by t far stands (inl less) out over
-        | inr more ↦
-            let here : n ≡ at = elim before [ inl less ↦ omega (arith, less) | inr same ↦ absurd (omega (arith, same.1)) ] in
-            let low = leaves_low t.entry by (tree.small t.device.0 t.entry (are.each n t stands).stands) out in
-            are.next n by t far stands (inr (here, omega (arith, low))) out over
-      ];
     }
 
     pub stop_grown : Leaves stop.entry port → (s : Stop) → IsNextStop plant base stop port s → (new : List Stop) → IsAdded s stops new →

@@ -11,4 +11,5 @@ pub mod Ports
 pub mod Reached
 pub mod Routed
 pub mod Sent
+pub mod StopFacts
 pub mod Whole

@@ -1,5 +1,5 @@
 -- The entries of a demand's frame, device by device.
-use Rattle.std.proofs.Common.{◌≡◌, ◌≢◌, ◌+◌, ◌^◌, ◌<◌, ◌≤◌, ◌↔◌, ◌⊎◌, ◌++◌, ◌∷◌, [], ℕ, inl, inr, Bool, true, false, cond, true≢false, List, Option, Some, None, length, get_or, option_map, slice_get, refl, sym, ◌∙◌, ap, subst, arith, IsBitSet}
+use Rattle.std.proofs.Common.{◌≡◌, ◌≢◌, ◌+◌, ◌^◌, ◌<◌, ◌↔◌, ◌⊎◌, ◌++◌, ◌∷◌, [], ℕ, inl, inr, Bool, true, false, true≢false, List, Option, Some, None, length, get_or, option_map, refl, sym, ◌∙◌, ap, subst, arith, IsBitSet}
 use Rattle.std.specs.Prelude.{◌==◌, ◌&&◌, IsTrue, option_and_then}
 use Rattle.std.specs.Option.{option_map_or}
 use Rattle.std.proofs.lemmas.Bool.{cases_Bool, cases_lt, cond-true, cond-false, and_parts, and_from, eqb-true, eq-eqb, both_ways}
@@ -17,9 +17,8 @@ use Rattle.link_index.specs.Index.{IsIndexOf, peer_in}
 use Rattle.link_index.specs.declared.index.Wire.{Wire}
 use Rattle.plant_rules.specs.Meets.{MeetsRules, IsDemand}
 use Rattle.plan_rules.specs.Tree.{Consumes}
-use Rattle.fit_rules.specs.declared.frame_plan.FramePlan.{FramePlan}
-use Rattle.fit_rules.specs.Shape.{entry_of, IsOn, IsSentBy, IsReceivedFrom, IsEntryOf, HasShape}
-use Rattle.frame_ways.specs.Entries.{IsBase, IsEntryAt, rx_port_of, is_parent_of, is_sent_over, IsTxBit}
+use Rattle.fit_rules.specs.Shape.{IsOn, IsSentBy, IsReceivedFrom, IsEntryOf}
+use Rattle.frame_ways.specs.Entries.{IsBase, IsTreeEntryAt, rx_port_of, is_parent_of, is_sent_over, IsTxBit}
 use Rattle.frame_ways.proofs.Lists.{no_entry, read_within}
 use Rattle.frame_ways.proofs.Ports.{from_one}
 
@@ -161,12 +160,12 @@ module _ (plant : Plant) (parents : Parents) (demand : Demand) (rows : List (Lis
       subst (λ n. n < length plant.devices) step.there (index.within from.0.0 from.1.0 step.far step.over).2
 
   module _ (entries : List (Option Entry)) (count : length entries ≡ length plant.devices)
-      (each : (k : ℕ) → k < length plant.devices → IsEntryAt plant parents demand k (get_or entries k None)) where
-    there : (device : ℕ) (e : Entry) → get_or entries device None ≡ Some e → IsEntryAt plant parents demand device (Some e)
+      (each : (k : ℕ) → k < length plant.devices → IsTreeEntryAt plant parents demand k (get_or entries k None)) where
+    there : (device : ℕ) (e : Entry) → get_or entries device None ≡ Some e → IsTreeEntryAt plant parents demand device (Some e)
     there device e is =
-        subst (IsEntryAt plant parents demand device) is (each device (omega (arith, read_within entries device e is, count)))
+        subst (IsTreeEntryAt plant parents demand device) is (each device (omega (arith, read_within entries device e is, count)))
 
-    full_at : (device : ℕ) → IsOn demand parents device → (o : Option Entry) → get_or entries device None ≡ o → IsEntryAt plant parents demand device o →
+    full_at : (device : ℕ) → IsOn demand parents device → (o : Option Entry) → get_or entries device None ≡ o → IsTreeEntryAt plant parents demand device o →
         (e : Entry) × (get_or entries device None ≡ Some e)
     full_at device on None is off = absurd (off on)
     full_at device on (Some e) is entry = (e, is)

@@ -1,10 +1,10 @@
 -- The greatest number of links, stop by stop.
-use Rattle.std.proofs.Common.{◌≡◌, ◌+◌, ◌<◌, ◌≤◌, ◌⊎◌, ◌++◌, ◌∷◌, [], ℕ, inl, inr, List, length, get_or, take, refl, sym, ◌∙◌, subst, arith}
-use Rattle.std.specs.Prelude.{Contains, IsBitSet}
+use Rattle.std.proofs.Common.{◌≡◌, ◌+◌, ◌<◌, ◌++◌, ◌∷◌, [], ℕ, inl, inr, List, length, get_or, take, refl, sym, ◌∙◌, subst, arith}
+use Rattle.std.specs.Prelude.{IsBitSet}
 use Rattle.std.proofs.lemmas.List.{take_more}
 use Rattle.std.proofs.lemmas.List.Elements.{Contains-append_left, Contains-push, Contains-push_cases}
 use Rattle.frame_ways.specs.declared.stops.Stop.{Stop}
-use Rattle.frame_ways.specs.Layout.{IsKeptAfter, IsMostHops, IsRaised}
+use Rattle.frame_ways.specs.Layout.{IsMostHops, IsRaised}
 
 pub none_kept : IsMostHops [] 0
 none_kept = record { bound = λ x is. absurd (omega (arith, is.1.1)); some = inl refl }

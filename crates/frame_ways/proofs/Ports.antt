@@ -8,7 +8,6 @@ use Rattle.irt_base.specs.Wiring.{begins_at, ends_at, touches, link_at, far_end,
 use Rattle.irt_base.specs.declared.numbers.DevId.{DevId}
 use Rattle.irt_base.specs.declared.numbers.PortNo.{PortNo}
 use Rattle.irt_base.specs.declared.plants.Device.{Device}
-use Rattle.irt_base.specs.declared.plants.Link.{Link}
 use Rattle.irt_base.specs.declared.plants.Plant.{Plant}
 use Rattle.plant_rules.specs.Words.{has_port, is_within}
 use Rattle.plant_rules.specs.Meets.{HasPort, IsLink, MeetsRules}

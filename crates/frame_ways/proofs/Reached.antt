@@ -1,6 +1,5 @@
 -- Each entry of a frame has a stop, as many links from the provider as its walk has.
-use Rattle.std.proofs.Common.{◌≡◌, ◌<◌, ◌≤◌, ◌⊎◌, ℕ, zero, suc, inl, inr, List, Some, length, refl, sym, ◌∙◌, ap, subst, arith}
-use Rattle.std.specs.Prelude.{slice_get}
+use Rattle.std.proofs.Common.{◌≡◌, ℕ, zero, suc, inl, inr, List, Some, length, refl, sym, ◌∙◌, ap, subst, arith}
 use Rattle.std.proofs.lemmas.Option.{same_Some, slice_get_within}
 use Rattle.irt_base.specs.Wiring.{peer_of}
 use Rattle.irt_base.specs.declared.blocks.Entry.{Entry}
@@ -11,7 +10,7 @@ use Rattle.irt_base.specs.declared.plants.Plant.{Plant}
 use Rattle.irt_route.specs.Trees.{Parents, parent_at}
 use Rattle.plan_rules.specs.Way.{IsParent, Leaves}
 use Rattle.fit_rules.specs.declared.frame_plan.FramePlan.{FramePlan}
-use Rattle.fit_rules.specs.Shape.{alone, entry_of, IsOn}
+use Rattle.fit_rules.specs.Shape.{alone, entry_of}
 use Rattle.frame_ways.specs.declared.stops.Stop.{Stop}
 use Rattle.frame_ways.specs.Entries.{IsBase}
 use Rattle.frame_ways.specs.Stops.{IsListed, HasLinks, AreStopsTo}

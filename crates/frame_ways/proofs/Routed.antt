@@ -1,6 +1,6 @@
 -- The tree of a demand, as its entries follow it.
-use Rattle.std.proofs.Common.{◌≡◌, ℕ, zero, suc, ◌≤◌, ◌⊎◌, inl, inr, List, [], ◌∷◌, ◌++◌, length, Option, Some, None, sym, ◌∙◌, ap, subst, arith, refl, append_assoc}
-use Rattle.std.specs.Prelude.{Contains, slice_get}
+use Rattle.std.proofs.Common.{◌≡◌, ℕ, ◌≤◌, ◌⊎◌, inl, inr, List, [], ◌∷◌, ◌++◌, length, Option, Some, None, sym, ◌∙◌, ap, subst, arith, refl, append_assoc}
+use Rattle.std.specs.Prelude.{Contains}
 use Rattle.std.proofs.lemmas.Bool.{both_ways, eq-eqb}
 use Rattle.std.proofs.lemmas.List.{append-nil}
 use Rattle.std.proofs.lemmas.List.Elements.{All-contains, All-from_recursion}
@@ -10,17 +10,19 @@ use Rattle.irt_base.specs.declared.numbers.DevId.{DevId}
 use Rattle.irt_base.specs.declared.numbers.PortNo.{PortNo}
 use Rattle.irt_base.specs.declared.plants.Demand.{Demand}
 use Rattle.irt_base.specs.declared.plants.Plant.{Plant}
-use Rattle.irt_route.specs.Routes.{IsAmong, IsConsumer, IsTreeOf}
+use Rattle.irt_route.specs.Routes.{RouteTables, IsRoutesOf, IsAmong, IsConsumer, IsTreeOf}
 use Rattle.irt_route.specs.Trees.{Parents, parent_at, IsTreeParent, IsTreeStep, IsOnTree, IsParentChain, IsLeft}
 use Rattle.irt_route.specs.Walks.{Peers, IsWalk, IsBestWalk}
 use Rattle.plant_rules.specs.Meets.{MeetsRules, IsDemand, IsConsumer as IsValidConsumer}
-use Rattle.plan_rules.specs.Tree.{Consumes}
 use Rattle.plan_rules.specs.SendWindow.{SendWindow, HasWindow}
-use Rattle.plan_rules.specs.Way.{Setup, IsParent, Leaves}
+use Rattle.plan_rules.specs.Way.{Setup, IsParent}
 use Rattle.fit_rules.specs.declared.frame_plan.FramePlan.{FramePlan}
-use Rattle.fit_rules.specs.Shape.{entry_of, IsOn, IsSentBy}
+use Rattle.fit_rules.specs.Order.{IsDemandAt, parents_of}
+use Rattle.fit_rules.specs.Shape.{IsOn, IsSentBy}
 use Rattle.frame_ways.specs.Entries.{IsBase}
-use Rattle.frame_ways.specs.Stops.{IsReceiver, IsEntryTree, IsProvided}
+use Rattle.frame_ways.specs.Stops.{IsEntryTree, IsProvided}
+use Rattle.frame_ways.proofs.Alone.{entry_stands}
+use Rattle.frame_ways.proofs.Lists.{each_at}
 use Rattle.frame_ways.proofs.Made.{AreMutual, IsStepOf, HasNoneToStart, step_of}
 use Rattle.frame_ways.proofs.Ports.{from_one}
 
@@ -38,6 +40,21 @@ IsOnTreeOf plant demand device = IsOnTree (peer_of plant) demand.provider.0 (IsA
 abbrev pub IsChainOf : Plant → Demand → ℕ → ℕ → Type 0
 IsChainOf plant demand links device = IsParentChain (peer_of plant) demand.provider.0 (IsAmong demand.consumers) links device
 
+abbrev pub OneTreeParent : Type 0
+OneTreeParent = (peers : Peers) (start : ℕ) (ends : List DevId) (from other : DevId × PortNo) (to : ℕ) →
+    IsTreeStep peers start (IsAmong ends) from to → IsTreeStep peers start (IsAmong ends) other to → from ≡ other
+
+abbrev pub NoneToStart : Type 0
+NoneToStart = (peers : Peers) (start : ℕ) (ends : List DevId) (from : DevId × PortNo) → IsTreeStep peers start (IsAmong ends) from start → ⊥
+
+abbrev pub HasChains : Type 0
+HasChains = (peers : Peers) (start : ℕ) (ends : List DevId) (device : ℕ) → (on : IsOnTree peers start (IsAmong ends) device) →
+    IsParentChain peers start (IsAmong ends) (length on.front) device
+
+abbrev pub HasLeaves : Type 0
+HasLeaves = (peers : Peers) (start : ℕ) (ends : List DevId) (device : ℕ) → IsOnTree peers start (IsAmong ends) device →
+    IsAmong ends device ⊎ IsLeft peers start (IsAmong ends) device
+
 -- What the laws of the crates below say of a demand, as one premise.
 pub record IsRouted (plant : Plant) (parents : Parents) (demand : Demand) : Type 0 where
   pub rules : MeetsRules plant
@@ -51,6 +68,21 @@ pub record IsRouted (plant : Plant) (parents : Parents) (demand : Demand) : Type
   pub chain : (device : ℕ) → (on : IsOnTreeOf plant demand device) → IsChainOf plant demand (length on.front) device
   pub leaves : (device : ℕ) → IsOnTreeOf plant demand device →
       IsAmong demand.consumers device ⊎ IsLeft (peer_of plant) demand.provider.0 (IsAmong demand.consumers) device
+
+pub routed_at : (plant : Plant) (routes : RouteTables) (number : ℕ) (demand : Demand) → IsRoutesOf plant routes → IsDemandAt plant number demand → AreMutual plant →
+    OneParent → OneWindow → OneTreeParent → NoneToStart → HasChains → HasLeaves → IsRouted plant (parents_of routes number) demand
+routed_at plant routes number demand are at both parents windows one start chain leaves = record {
+  rules = are.rules;
+  valid = each_at (IsDemand plant) plant.demands number demand are.rules.demands at;
+  tree = are.trees number demand at;
+  both = both;
+  parents_one = parents;
+  windows_one = windows;
+  one = one (peer_of plant) demand.provider.0 demand.consumers;
+  start = start (peer_of plant) demand.provider.0 demand.consumers;
+  chain = chain (peer_of plant) demand.provider.0 demand.consumers;
+  leaves = leaves (peer_of plant) demand.provider.0 demand.consumers;
+}
 
 -- one more step
 walk_more : (peers : Peers) (start : ℕ) (ports : List PortNo) (from : DevId × PortNo) (far : DevId × PortNo) (to : ℕ) → IsWalk peers start ports from.0.0 →
@@ -155,12 +187,11 @@ module _ (plant : Plant) (parents : Parents) (demand : Demand) (base : FramePlan
         let (child, at) = ((is.shape.each device e stands).sent port leaves.from_one).0 leaves.bit in
         let (f, there) = is.shape.full child (inr (_, at)) in
         let received = (is.shape.each child f there).received _ at in record {
-          far = (record { 0 = child }, record { 0 = f.rx_port });
+          receiver = child;
           e = f;
-          over = received.leads;
-          stands = there;
-          here = refl;
-          from_one = received.from_one;
+          stands = entry_stands plant base child f there ((is.shape.each child f there).frame ∙ sym is.shape.frame);
+          received = received.from_one;
+          leads = received.leads;
         };
   }
 

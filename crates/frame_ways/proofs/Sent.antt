@@ -1,7 +1,7 @@
 -- The sendings of stops, one by one.
-use Rattle.std.proofs.Common.{◌≡◌, ◌≢◌, ◌+◌, ◌^◌, ◌<◌, ◌⊎◌, ◌++◌, ◌∷◌, [], ℕ, inl, inr, List, Some, length, get_or, AllPairs, refl, sym, ◌∙◌, ap, subst, arith}
+use Rattle.std.proofs.Common.{◌≡◌, ◌≢◌, ◌+◌, ◌^◌, ◌<◌, ◌⊎◌, ◌++◌, ◌∷◌, [], ℕ, inl, inr, List, Some, get_or, refl, sym, ◌∙◌, ap, subst, arith}
 use Rattle.std.specs.Prelude.{slice_get, Contains}
-use Rattle.std.proofs.lemmas.Bool.{cases_lt, cases_eq}
+use Rattle.std.proofs.lemmas.Bool.{cases_lt}
 use Rattle.std.proofs.lemmas.List.Elements.{Contains-get_or, Contains-append_left, Contains-push, Contains-push_cases}
 use Rattle.std.proofs.lemmas.List.Quantifiers.{all_pairs_push}
 use Rattle.std.proofs.lemmas.Option.{same_Some}
@@ -9,7 +9,7 @@ use Rattle.placement.specs.declared.layout.Sending.{Sending}
 use Rattle.plan_rules.specs.Way.{Leaves}
 use Rattle.frame_ways.specs.declared.stops.Stop.{Stop}
 use Rattle.frame_ways.specs.Layout.{sending_of, IsSendingBefore, AreSendingsTo}
-use Rattle.frame_ways.specs.Stops.{Precedes, AreApart}
+use Rattle.frame_ways.specs.Stops.{Precedes, StopsDiffer}
 use Rattle.frame_ways.proofs.Bits.{leaves_low}
 use Rattle.frame_ways.proofs.Lists.{pair_at}
 
@@ -38,7 +38,7 @@ none_sent stops = record {
 }
 
 module _ (stops : List Stop) (at port : ℕ) (s : Stop) (sendings : List Sending) (there : slice_get stops at ≡ Some s) (are : AreSendingsTo stops at port sendings) where
-  pub sent_more : AreApart stops → Leaves s.entry port → AreSendingsTo stops at (port + 1) (sendings ++ sending_of s port ∷ [])
+  pub sent_more : StopsDiffer stops → Leaves s.entry port → AreSendingsTo stops at (port + 1) (sendings ++ sending_of s port ∷ [])
   sent_more apart leaves = record {
     only = λ x has. elim (Contains-push_cases sendings (sending_of s port) x has) [
       | inl before ↦ widened stops at port at (port + 1) x (λ n m. before_more n m at port) (are.only x before)

@@ -1,121 +1,47 @@
 -- What the lists made of all stops say of the frame.
-use Rattle.std.proofs.Common.{◌≡◌, ◌≢◌, ◌+◌, ◌*◌, ◌^◌, ◌<◌, ◌≤◌, ◌⊎◌, ℕ, inl, inr, List, Option, Some, None, length, get_or, AllPairs, refl, sym, ◌∙◌, ap, subst, arith}
-use Rattle.std.specs.Prelude.{slice_get, filter_map, All, Contains, IfSome, IsBitSet}
+use Rattle.std.proofs.Common.{◌≡◌, ◌+◌, ◌≤◌, ℕ, inl, inr, List, Option, Some, None, length, get_or, refl, sym, ◌∙◌, ap, subst, arith}
+use Rattle.std.specs.Prelude.{slice_get, filter_map, Contains, IfSome, IsBitSet}
 use Rattle.std.proofs.lemmas.List.Elements.{Contains-get_or}
-use Rattle.std.proofs.lemmas.Option.{same_Some, slice_get_within, slice_get-get_or}
+use Rattle.std.proofs.lemmas.Option.{same_Some, slice_get_within}
 use Rattle.irt_base.specs.Cycle.{guard_time, wire_time}
 use Rattle.irt_base.specs.Wiring.{peer_of, hop_of}
 use Rattle.irt_base.specs.declared.blocks.Entry.{Entry}
 use Rattle.irt_base.specs.declared.numbers.DevId.{DevId}
 use Rattle.irt_base.specs.declared.numbers.PortNo.{PortNo}
 use Rattle.irt_base.specs.declared.plants.Demand.{Demand}
-use Rattle.irt_base.specs.declared.plants.Device.{Device}
 use Rattle.irt_base.specs.declared.plants.Plant.{Plant}
 use Rattle.irt_route.specs.Trees.{Parents}
-use Rattle.irt_route.specs.Walks.{IsBestWalk, HasHops}
+use Rattle.irt_route.specs.Walks.{IsBestWalk}
 use Rattle.link_index.specs.Index.{IsIndexOf}
 use Rattle.link_index.specs.declared.index.Wire.{Wire}
-use Rattle.plant_rules.specs.Meets.{IsDevice}
 use Rattle.plan_rules.specs.Frames.{IsForwarded}
-use Rattle.plan_rules.specs.SendWindow.{SendWindow, HasWindow, at_anchor, behind}
-use Rattle.plan_rules.specs.Way.{entry_at, IsAnchor, IsParent, Leaves}
+use Rattle.plan_rules.specs.SendWindow.{SendWindow, HasWindow}
+use Rattle.plan_rules.specs.Way.{IsAnchor, IsParent, Leaves}
 use Rattle.fit_rules.specs.declared.frame_plan.FramePlan.{FramePlan}
-use Rattle.fit_rules.specs.Delays.{IsDelayed, IsReadyAfter}
+use Rattle.fit_rules.specs.Delays.{IsDelayed}
 use Rattle.fit_rules.specs.Order.{HasFarthest}
-use Rattle.fit_rules.specs.Shape.{alone, entry_of, IsSentBy}
+use Rattle.fit_rules.specs.Shape.{alone, entry_of}
 use Rattle.placement.specs.Layouts.{IsValidSending, StandsBefore, IsUsed, IsAfter, IsAnchorAt, IsLayout}
 use Rattle.placement.specs.declared.layout.After.{After}
 use Rattle.placement.specs.declared.layout.Anchor.{Anchor}
 use Rattle.placement.specs.declared.layout.Layout.{Layout}
 use Rattle.placement.specs.declared.layout.Sending.{Sending}
 use Rattle.frame_ways.specs.declared.frame_way.Arrival.{Arrival}
-use Rattle.frame_ways.specs.declared.frame_way.FrameWay.{FrameWay}
 use Rattle.frame_ways.specs.declared.stops.Stop.{Stop}
 use Rattle.frame_ways.specs.Entries.{IsBase}
 use Rattle.frame_ways.specs.FrameWays.{IsSendingOf, AreSendings, IsStartedAfter, IsAnchorOf, AreAnchors, IsArrivalOf, IsValidArrival, AreArrivals, IsFrameWay}
-use Rattle.frame_ways.specs.Layout.{sending_of, IsSendingBefore, AreSendingsTo, IsSmallArrival, IsUsableStop, HasAfter, IsAnchorBefore, AreAnchorsTo, IsKeptAfter, IsMostHops}
-use Rattle.frame_ways.specs.Stops.{IsStarter, IsListed, window_of, HasLinks, HasStarter, IsComing, Comes, AreStopsTo}
-use Rattle.frame_ways.proofs.Alone.{entry_from, entry_stands}
+use Rattle.frame_ways.specs.Layout.{sending_of, AreSendingsTo, HasAfter, AreAnchorsTo, IsMostHops}
+use Rattle.frame_ways.specs.Stops.{IsStarter, stop_window, HasLinks, HasStarter, ArrivesAs, MayArriveAs, AreStopsTo}
+use Rattle.frame_ways.proofs.Alone.{entry_from}
 use Rattle.frame_ways.proofs.Bits.{leaves_low}
-use Rattle.frame_ways.proofs.Devices.{stop_within, few_stops, small_stop, device_rules}
+use Rattle.frame_ways.proofs.Devices.{device_rules}
 use Rattle.frame_ways.proofs.Lists.{contains_at, place_of, given_from, given_to}
-use Rattle.frame_ways.proofs.Reached.{links_one, listed, provides}
-use Rattle.frame_ways.proofs.Routed.{IsRouted, entry_tree, provider_sends, first_consumer, consumer_on, chain_of_walk}
-
--- the stop of a device that has an entry
-pub record HasStop (plant : Plant) (base : FramePlan) (stops : List Stop) (device : ℕ) (e : Entry) : Type 0 where
-  pub n : ℕ
-  pub s : Stop
-  pub there : slice_get stops n ≡ Some s
-  pub here : s.device.0 ≡ device
-  pub same : s.entry ≡ e
-
--- the window of a device that starts by an offset of its own
-own_window : (plant : Plant) (base : FramePlan) (device : ℕ) (e : Entry) (w : SendWindow) → entry_at (alone plant base) device base.frame.0 ≡ Some e →
-    IsAnchor (alone plant base) device e → HasWindow (alone plant base) base.frame.0 device w → w.anchor ≡ device
-own_window plant base _ e _ at starts (at_anchor v f is one) = refl
-own_window plant base _ e _ at starts (behind v f parent port hop w d is other comes sends hops held) =
-    absurd (other (subst (IsAnchor (alone plant base) v) (same_Some e f (sym at ∙ is)) starts))
+use Rattle.frame_ways.proofs.Reached.{links_one}
+use Rattle.frame_ways.proofs.StopFacts.{own_window, within, few, small, alone_at, stop_of, window_is, starter_within, sends, low_bits}
+use Rattle.frame_ways.proofs.Routed.{IsRouted, first_consumer, consumer_on, chain_of_walk}
 
 module _ (plant : Plant) (parents : Parents) (demand : Demand) (routed : IsRouted plant parents demand) (base : FramePlan) (is : IsBase plant parents demand base)
     (stops : List Stop) (are : AreStopsTo plant base stops (length stops) 0) where
-  within : (n : ℕ) (s : Stop) → slice_get stops n ≡ Some s → s.device.0 < 64
-  within n s there =
-      omega (arith, stop_within plant routed.rules base (entry_tree plant parents demand base is) stops (length stops) 0 are n s there, routed.rules.device_count.1)
-
-  few : length stops ≤ 64
-  few = few_stops plant routed.rules base (entry_tree plant parents demand base is) stops (length stops) 0 are
-
-  small : (n : ℕ) (s : Stop) → slice_get stops n ≡ Some s → s.greatest ≤ 64 * 400000
-  small n s there = (small_stop plant routed.rules base (entry_tree plant parents demand base is) stops (length stops) 0 are n s there (slice_get_within stops n s there)).0
-
-  alone_at : (device : ℕ) (e : Entry) → entry_of base device ≡ Some e → entry_at (alone plant base) device base.frame.0 ≡ Some e
-  alone_at device e stands = entry_stands plant base device e stands ((is.shape.each device e stands).frame ∙ sym is.shape.frame)
-
-  stop_of : (device : ℕ) (e : Entry) → entry_of base device ≡ Some e → HasStop plant base stops device e
-  stop_of device e stands =
-      let (n, s, there, here) = listed plant parents demand routed base is stops are device e stands in
-      let own = (are.each n s there).stands in
-      record { n = n; s = s; there = there; here = here; same = same_Some s.entry e (sym own ∙ ap (entry_of base) here ∙ stands) }
-
-  -- the window of a stop is that of its device
-  window_is : (n : ℕ) (s : Stop) (device : ℕ) (w : SendWindow) → slice_get stops n ≡ Some s → s.device.0 ≡ device → HasWindow (alone plant base) base.frame.0 device w →
-      window_of s ≡ w
-  window_is n s device w there here sends =
-      routed.windows_one (alone plant base) routed.rules base.frame.0 device (window_of s) w
-      (subst (λ d. HasWindow (alone plant base) base.frame.0 d (window_of s)) here (are.each n s there).window) sends
-
-  starter_within : (count anchor : ℕ) → HasStarter plant stops count anchor → anchor < 64
-  starter_within count anchor starter = omega (arith, within starter.n starter.s starter.there, starter.here)
-
-  pub low_bits : (n : ℕ) (s : Stop) → slice_get stops n ≡ Some s → s.entry.tx < 2 ^ 8
-  low_bits n s there = (is.shape.each s.device.0 s.entry (are.each n s there).stands).small
-
-  small_arrival : (n : ℕ) (s : Stop) (o : Option Arrival) → n < length stops → Comes plant base stops n s o → IfSome o IsSmallArrival
-  small_arrival n s None less comes = tt
-  small_arrival n s (Some x) less comes = omega (arith, comes.small, few, less)
-
-  arrival_starter : (n : ℕ) (s : Stop) (o : Option Arrival) → Comes plant base stops n s o → IfSome o (λ x. HasStarter plant stops n x.anchor.0)
-  arrival_starter n s None comes = tt
-  arrival_starter n s (Some x) comes = comes.starter
-
-  pub usable : (n : ℕ) (s : Stop) → slice_get stops n ≡ Some s → IsUsableStop plant stops n s
-  usable n s there =
-      let comes = (are.each n s there).comes in record {
-        there = stop_within plant routed.rules base (entry_tree plant parents demand base is) stops (length stops) 0 are n s there;
-        small = small_arrival n s s.arrival (slice_get_within stops n s there) comes;
-        starter = arrival_starter n s s.arrival comes;
-      }
-
-  -- a stop of an anchor sends
-  sends : (n : ℕ) (s : Stop) → slice_get stops n ≡ Some s → IsStarter plant s.device.0 s.entry → (port : ℕ) × Leaves s.entry port
-  sends n s there (inl zeroth) =
-      let stands = (are.each n s there).stands in
-      let own = provides plant parents demand routed base is s.device.0 s.entry stands zeroth in
-      let (port, low, sent) = provider_sends plant parents demand routed in
-      (port, record { from_one = low; bit = ((is.shape.each s.device.0 s.entry stands).sent port low).1 (subst (λ d. IsSentBy parents d port) (sym own) sent) })
-  sends n s there (inr (absolute, (port, leaves))) = (port, leaves)
-
   -- ---- sendings
 
   module _ (sendings : List Sending) (sent : AreSendingsTo stops (length stops) 0 sendings) where
@@ -125,8 +51,8 @@ module _ (plant : Plant) (parents : Parents) (demand : Demand) (routed : IsRoute
         let stop = are.each b.n b.s b.there in
         subst (IsSendingOf plant base) (sym b.is) (record {
           e = b.s.entry;
-          w = window_of b.s;
-          sends = record { stands = alone_at b.s.device.0 b.s.entry stop.stands; leaves = b.leaves; sends = stop.window };
+          w = stop_window b.s;
+          sends = record { stands = alone_at plant parents demand routed base is stops are b.s.device.0 b.s.entry stop.stands; leaves = b.leaves; sends = stop.window };
           hangs = refl;
           lo = refl;
           hi = refl;
@@ -135,8 +61,8 @@ module _ (plant : Plant) (parents : Parents) (demand : Demand) (routed : IsRoute
     sendings_all : (anchor device port least greatest : ℕ) → IsDelayed plant base anchor device port least greatest →
         (s : Sending) × Contains sendings s × (s.anchor.0 ≡ anchor) × (s.device.0 ≡ device) × (s.port.0 ≡ port) × (s.least ≡ least) × (s.greatest ≡ greatest)
     sendings_all anchor device port least greatest d =
-        let t = stop_of device d.e (entry_from plant base device d.e d.sends.stands) in
-        let same = window_is t.n t.s device d.w t.there t.here d.sends.sends in
+        let t = stop_of plant parents demand routed base is stops are device d.e (entry_from plant base device d.e d.sends.stands) in
+        let same = window_is plant parents demand routed base is stops are t.n t.s device d.w t.there t.here d.sends.sends in
         let leaves = subst (λ (e : Entry). Leaves e port) (sym t.same) d.sends.leaves in (
           sending_of t.s port,
           sent.all t.n port t.s t.there (inl (slice_get_within stops t.n t.s t.there)) leaves,
@@ -155,11 +81,11 @@ module _ (plant : Plant) (parents : Parents) (demand : Demand) (routed : IsRoute
         let b = sent.only x has in
         let stop = are.each b.n b.s b.there in
         subst IsValidSending (sym b.is) (record {
-          anchor = starter_within (b.n + 1) b.s.anchor.0 stop.starter;
-          device = within b.n b.s b.there;
-          port = omega (arith, leaves_low b.s.entry b.by (low_bits b.n b.s b.there) b.leaves);
+          anchor = starter_within plant parents demand routed base is stops are (b.n + 1) b.s.anchor.0 stop.starter;
+          device = within plant parents demand routed base is stops are b.n b.s b.there;
+          port = omega (arith, leaves_low b.s.entry b.by (low_bits plant parents demand routed base is stops are b.n b.s b.there) b.leaves);
           ordered = stop.ordered;
-          small = omega (arith, small b.n b.s b.there);
+          small = omega (arith, small plant parents demand routed base is stops are b.n b.s b.there);
         })
 
   -- ---- anchors
@@ -167,9 +93,9 @@ module _ (plant : Plant) (parents : Parents) (demand : Demand) (routed : IsRoute
   module _ (anchors : List Anchor) (anchored : AreAnchorsTo plant stops (length stops) anchors) where
     started : (n : ℕ) (s : Stop) (device : ℕ) (o : Option After) → slice_get stops n ≡ Some s → s.device.0 ≡ device → HasAfter plant s o →
         IsStartedAfter plant base device s.entry o
-    started n s device None there here none = subst (Comes plant base stops n s) none (are.each n s there).comes
+    started n s device None there here none = subst (MayArriveAs plant base stops n s) none (are.each n s there).comes
     started n s device (Some f) there here (x, d, comes, held, same, gap) =
-        let c : IsComing plant base stops n s x = subst (Comes plant base stops n s) comes (are.each n s there).comes in (
+        let c : ArrivesAs plant base stops n s x = subst (MayArriveAs plant base stops n s) comes (are.each n s there).comes in (
           c.comes.comes.received,
           record {
             e = s.entry;
@@ -197,7 +123,7 @@ module _ (plant : Plant) (parents : Parents) (demand : Demand) (routed : IsRoute
     anchors_all : (device : ℕ) (e : Entry) → entry_of base device ≡ Some e → IsAnchor (alone plant base) device e →
         (a : Anchor) × Contains anchors a × (a.device.0 ≡ device)
     anchors_all device e stands starts =
-        let t = stop_of device e stands in
+        let t = stop_of plant parents demand routed base is stops are device e stands in
         let starter : IsStarter plant t.s.device.0 t.s.entry =
         subst (λ v. IsStarter plant v t.s.entry) (sym t.here) (subst (λ (f : Entry). IsStarter plant device f) (sym t.same) starts) in
         let (m, a, less, at, same) = anchored.all t.n t.s t.there (slice_get_within stops t.n t.s t.there) starter in
@@ -208,11 +134,11 @@ module _ (plant : Plant) (parents : Parents) (demand : Demand) (routed : IsRoute
 
     after_small : (n : ℕ) (s : Stop) (f : After) → slice_get stops n ≡ Some s → HasAfter plant s (Some f) → IsAfter f
     after_small n s f there (x, d, comes, held, same, gap) =
-        let c : IsComing plant base stops n s x = subst (Comes plant base stops n s) comes (are.each n s there).comes in
+        let c : ArrivesAs plant base stops n s x = subst (MayArriveAs plant base stops n s) comes (are.each n s there).comes in
         let bridge : d.bmax ≤ 100000 = (device_rules plant routed.rules s.device.0 d held).bridge in
         let less = slice_get_within stops n s there in record {
-          anchor = omega (arith, starter_within n x.anchor.0 c.starter, ap (λ (a : DevId). a.0) same);
-          gap = omega (arith, gap, c.small, bridge, few, less, routed.rules.window);
+          anchor = omega (arith, starter_within plant parents demand routed base is stops are n x.anchor.0 c.starter, ap (λ (a : DevId). a.0) same);
+          gap = omega (arith, gap, c.small, bridge, few plant parents demand routed base is stops are, less, routed.rules.window);
         }
 
     -- the anchor of a stop stands among all
@@ -229,14 +155,14 @@ module _ (plant : Plant) (parents : Parents) (demand : Demand) (routed : IsRoute
       used k a at =
           let b = anchored.only k a at in
           let stop = are.each b.n b.s b.there in
-          let (port, leaves) = sends b.n b.s b.there b.starts in
-          let home = own_window plant base b.s.device.0 b.s.entry (window_of b.s) (alone_at b.s.device.0 b.s.entry stop.stands) b.starts stop.window in
+          let (port, leaves) = sends plant parents demand routed base is stops are b.n b.s b.there b.starts in
+          let home = own_window plant base b.s.device.0 b.s.entry (stop_window b.s) (alone_at plant parents demand routed base is stops are b.s.device.0 b.s.entry stop.stands) b.starts stop.window in
           (sending_of b.s port, sent.all b.n port b.s b.there (inl b.before) leaves, home ∙ ap (λ (v : DevId). v.0) (sym b.device))
 
       anchor_at : (k : ℕ) (a : Anchor) → slice_get anchors k ≡ Some a → IsAnchorAt layout k a
       anchor_at k a at =
           let b = anchored.only k a at in record {
-            device = omega (arith, within b.n b.s b.there, ap (λ (v : DevId). v.0) b.device);
+            device = omega (arith, within plant parents demand routed base is stops are b.n b.s b.there, ap (λ (v : DevId). v.0) b.device);
             used = used k a at;
             after = λ f waits. (
               subst (λ (o : Option After). IfSome o (λ (g : After). StandsBefore anchors k g.anchor.0)) waits b.starter,
@@ -260,11 +186,11 @@ module _ (plant : Plant) (parents : Parents) (demand : Demand) (routed : IsRoute
   -- ---- arrivals
 
   module _ (arrivals : List Arrival) (arrived : arrivals ≡ filter_map (λ (s : Stop). s.arrival) stops) where
-    came : (x : Arrival) → Contains arrivals x → (k : ℕ) × (s : Stop) × (slice_get stops k ≡ Some s) × IsComing plant base stops k s x
+    came : (x : Arrival) → Contains arrivals x → (k : ℕ) × (s : Stop) × (slice_get stops k ≡ Some s) × ArrivesAs plant base stops k s x
     came x has =
         let (n, at) = place_of arrivals x has in
         let (k, s, there, gives) = given_from (λ (t : Stop). t.arrival) stops n x (ap (λ xs. slice_get xs n) (sym arrived) ∙ at) in
-        (k, s, there, subst (Comes plant base stops k s) gives (are.each k s there).comes)
+        (k, s, there, subst (MayArriveAs plant base stops k s) gives (are.each k s there).comes)
 
     arrival_is : (x : Arrival) → Contains arrivals x → IsArrivalOf plant base x
     arrival_is x has =
@@ -279,7 +205,7 @@ module _ (plant : Plant) (parents : Parents) (demand : Demand) (routed : IsRoute
         }
 
     -- two arrivals at one device are one
-    coming_is : (n : ℕ) (s : Stop) (x : Arrival) (device : ℕ) (e : Entry) (hop : ℕ) (w : SendWindow) → IsComing plant base stops n s x → s.device.0 ≡ device → s.entry ≡ e →
+    coming_is : (n : ℕ) (s : Stop) (x : Arrival) (device : ℕ) (e : Entry) (hop : ℕ) (w : SendWindow) → ArrivesAs plant base stops n s x → s.device.0 ≡ device → s.entry ≡ e →
         IsForwarded (alone plant base) device base.frame.0 e hop w → (x.anchor.0 ≡ w.anchor) × (x.latest ≡ w.hi + hop)
     coming_is n s x device e hop w c here same forwarded =
         let comes : IsParent (alone plant base) base.frame.0 device e c.comes.parent c.comes.port =
@@ -293,7 +219,7 @@ module _ (plant : Plant) (parents : Parents) (demand : Demand) (routed : IsRoute
         (sym c.hangs ∙ ap (λ (v : SendWindow). v.anchor) window, c.is ∙ (λ i. (window i).hi + hops i))
 
     arrival_at : (device : ℕ) (e : Entry) (hop : ℕ) (w : SendWindow) (n : ℕ) (s : Stop) → IsForwarded (alone plant base) device base.frame.0 e hop w →
-        slice_get stops n ≡ Some s → s.device.0 ≡ device → s.entry ≡ e → (o : Option Arrival) → s.arrival ≡ o → Comes plant base stops n s o →
+        slice_get stops n ≡ Some s → s.device.0 ≡ device → s.entry ≡ e → (o : Option Arrival) → s.arrival ≡ o → MayArriveAs plant base stops n s o →
         (x : Arrival) × Contains arrivals x × (x.device.0 ≡ device) × (x.port.0 ≡ e.rx_port) × (x.anchor.0 ≡ w.anchor) × (x.latest ≡ w.hi + hop)
     arrival_at device e hop w n s forwarded there here same None gives zeroth =
         absurd (omega (arith, forwarded.comes.received, zeroth, ap (λ (f : Entry). f.rx_port) same))
@@ -311,7 +237,7 @@ module _ (plant : Plant) (parents : Parents) (demand : Demand) (routed : IsRoute
     arrivals_all : (device : ℕ) (e : Entry) (hop : ℕ) (w : SendWindow) → IsForwarded (alone plant base) device base.frame.0 e hop w →
         (x : Arrival) × Contains arrivals x × (x.device.0 ≡ device) × (x.port.0 ≡ e.rx_port) × (x.anchor.0 ≡ w.anchor) × (x.latest ≡ w.hi + hop)
     arrivals_all device e hop w forwarded =
-        let t = stop_of device e (entry_from plant base device e forwarded.stands) in
+        let t = stop_of plant parents demand routed base is stops are device e (entry_from plant base device e forwarded.stands) in
         arrival_at device e hop w t.n t.s forwarded t.there t.here t.same t.s.arrival refl (are.each t.n t.s t.there).comes
 
     valid_arrival : (rows : List (List (Option Wire))) → IsIndexOf plant rows → (x : Arrival) → Contains arrivals x → IsValidArrival x
@@ -319,10 +245,10 @@ module _ (plant : Plant) (parents : Parents) (demand : Demand) (routed : IsRoute
         let (k, s, there, c) = came x has in
         let back = routed.both c.comes.parent c.comes.port s.device.0 s.entry.rx_port c.comes.comes.leads in
         let port = (index.within s.device.0 s.entry.rx_port _ back).1 in record {
-          device = omega (arith, within k s there, ap (λ (v : DevId). v.0) c.device);
+          device = omega (arith, within plant parents demand routed base is stops are k s there, ap (λ (v : DevId). v.0) c.device);
           port = (omega (arith, c.comes.comes.received, c.here), omega (arith, port, c.here));
-          anchor = starter_within k x.anchor.0 c.starter;
-          small = omega (arith, c.small, few, slice_get_within stops k s there);
+          anchor = starter_within plant parents demand routed base is stops are k x.anchor.0 c.starter;
+          small = omega (arith, c.small, few plant parents demand routed base is stops are, slice_get_within stops k s there);
         }
 
     pub are_arrivals : (rows : List (List (Option Wire))) → IsIndexOf plant rows → (layout : Layout) (hops : ℕ) →
@@ -345,7 +271,7 @@ module _ (plant : Plant) (parents : Parents) (demand : Demand) (routed : IsRoute
   consumer_stop : (c : DevId) → Contains demand.consumers c → (n : ℕ) × (s : Stop) × (slice_get stops n ≡ Some s) × (s.device.0 ≡ c.0) × IsBitSet s.entry.tx 0
   consumer_stop c has =
       let (e, stands) = is.shape.full c.0 (consumer_on plant parents demand routed c has) in
-      let t = stop_of c.0 e stands in
+      let t = stop_of plant parents demand routed base is stops are c.0 e stands in
       (t.n, t.s, t.there, t.here, subst (λ (f : Entry). IsBitSet f.tx 0) (sym t.same) ((is.shape.each c.0 e stands).kept.1 has))
 
   pub is_farthest : (hops : ℕ) → IsMostHops stops hops → HasFarthest plant demand hops

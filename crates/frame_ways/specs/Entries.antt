@@ -19,9 +19,9 @@ pub record IsBase (plant : Plant) (parents : Parents) (demand : Demand) (base : 
   pub zero : IsAtZero base
 
 -- a device has an entry exactly where it is on the tree
-abbrev pub IsEntryAt : Plant → Parents → Demand → ℕ → Option Entry → Type 0
-IsEntryAt plant parents demand device None = ¬ IsOn demand parents device
-IsEntryAt plant parents demand device (Some e) =
+abbrev pub IsTreeEntryAt : Plant → Parents → Demand → ℕ → Option Entry → Type 0
+IsTreeEntryAt plant parents demand device None = ¬ IsOn demand parents device
+IsTreeEntryAt plant parents demand device (Some e) =
     IsEntryOf plant parents demand 1 1 device e × (e.send_offset ≡ 0)
 
 -- the port at the other end of the parent's, 0 at the provider

@@ -9,6 +9,7 @@ use Rattle.irt_base.specs.declared.plants.Device.{Device}
 use Rattle.irt_base.specs.declared.plants.Plant.{Plant}
 use Rattle.plan_rules.specs.Frames.{IsForwarded}
 use Rattle.plan_rules.specs.SendWindow.{SendWindow, HasWindow}
+use Rattle.plan_rules.specs.Tree.{IsReceiver}
 use Rattle.plan_rules.specs.Way.{Setup, entry_at, Leaves, IsAnchor, IsParent}
 use Rattle.fit_rules.specs.declared.frame_plan.FramePlan.{FramePlan}
 use Rattle.fit_rules.specs.Delays.{IsAtZero}
@@ -20,22 +21,14 @@ use Rattle.frame_ways.specs.declared.stops.Stop.{Stop}
 abbrev pub IsStarter : Plant → ℕ → Entry → Type 0
 IsStarter plant device e = IsAnchor (record { plant = plant; blocks = [] }) device e
 
--- somebody has an entry for it at the other end of the link of a port
-pub record IsReceiver (plant : Plant) (base : FramePlan) (device port : ℕ) : Type 0 where
-  pub far : DevId × PortNo
-  pub e : Entry
-  pub over : peer_of plant device port ≡ Some far
-  pub stands : entry_of base far.0.0 ≡ Some e
-  pub here : e.rx_port ≡ far.1.0
-  pub from_one : 1 ≤ e.rx_port
-
 -- The entries of a frame, with offsets 0, which lead from device to device.
 pub record IsEntryTree (plant : Plant) (base : FramePlan) : Type 0 where
   pub count : length base.entries ≡ length plant.devices
   pub frames : (device : ℕ) (e : Entry) → entry_of base device ≡ Some e → e.frame ≡ base.frame
   pub zero : IsAtZero base
   pub small : (device : ℕ) (e : Entry) → entry_of base device ≡ Some e → e.tx < 2 ^ 8
-  pub sent : (device port : ℕ) (e : Entry) → entry_of base device ≡ Some e → Leaves e port → IsReceiver plant base device port
+  pub sent : (device port : ℕ) (e : Entry) → entry_of base device ≡ Some e → Leaves e port →
+      IsReceiver (alone plant base) base.frame.0 device port
 
 -- the device has the frame from nobody
 abbrev pub IsProvided : FramePlan → ℕ → Type 0
@@ -62,14 +55,14 @@ pub record IsFirstStop (base : FramePlan) (provider : DevId) (s : Stop) : Type 0
   pub hops : s.hops ≡ 0
 
 -- It starts by its own offset.
-pub record IsOwnStart (plant : Plant) (s : Stop) : Type 0 where
+pub record StartsAtZero (plant : Plant) (s : Stop) : Type 0 where
   pub starts : IsStarter plant s.device.0 s.entry
   pub anchor : s.anchor ≡ s.device
   pub least : s.least ≡ 0
   pub greatest : s.greatest ≡ 0
 
 -- It starts a hop and a bridge delay after another one.
-pub record IsLaterStart (plant : Plant) (from : Stop) (hop : ℕ) (s : Stop) : Type 0 where
+pub record StartsBehind (plant : Plant) (from : Stop) (hop : ℕ) (s : Stop) : Type 0 where
   pub relays : ¬ IsStarter plant s.device.0 s.entry
   pub d : Device
   pub held : slice_get plant.devices s.device.0 ≡ Some d
@@ -79,11 +72,11 @@ pub record IsLaterStart (plant : Plant) (from : Stop) (hop : ℕ) (s : Stop) : T
   pub least : s.least ≡ from.least + (hop + d.bmin)
   pub greatest : s.greatest ≡ from.greatest + (hop + d.bmax)
 
-pub record IsBehind (plant : Plant) (from : Stop) (hop : ℕ) (e : Entry) (x : Arrival) (s : Stop) : Type 0 where
+pub record IsStopBehind (plant : Plant) (from : Stop) (hop : ℕ) (e : Entry) (x : Arrival) (s : Stop) : Type 0 where
   pub device : s.device ≡ x.device
   pub entry : s.entry ≡ e
   pub arrival : s.arrival ≡ Some x
-  pub starts : IsOwnStart plant s ⊎ IsLaterStart plant from hop s
+  pub starts : StartsAtZero plant s ⊎ StartsBehind plant from hop s
   pub hops : s.hops ≡ from.hops + 1
 
 -- the stop to which another one sends by a port
@@ -98,11 +91,11 @@ pub record IsNextStop (plant : Plant) (base : FramePlan) (from : Stop) (port : �
   pub from_one : 1 ≤ x.port.0
   pub anchor : x.anchor ≡ from.anchor
   pub latest : x.latest ≡ from.greatest + hop
-  pub behind : IsBehind plant from hop s.entry x s
+  pub behind : IsStopBehind plant from hop s.entry x s
 
 -- when the stop's device sends
-abbrev pub window_of : Stop → SendWindow
-window_of s = record { lo = s.least; hi = s.greatest; anchor = s.anchor.0 }
+abbrev pub stop_window : Stop → SendWindow
+stop_window s = record { lo = s.least; hi = s.greatest; anchor = s.anchor.0 }
 
 -- so many parents lead from the device to the provider
 abbrev pub HasLinks : Setup → ℕ → ℕ → ℕ → Type 0
@@ -121,7 +114,7 @@ pub record HasStarter (plant : Plant) (stops : List Stop) (count anchor : ℕ) :
   pub starts : IsStarter plant s.device.0 s.entry
 
 -- The frame comes to a stop so, from one before it.
-pub record IsComing (plant : Plant) (base : FramePlan) (stops : List Stop) (n : ℕ) (s : Stop) (x : Arrival) : Type 0 where
+pub record ArrivesAs (plant : Plant) (base : FramePlan) (stops : List Stop) (n : ℕ) (s : Stop) (x : Arrival) : Type 0 where
   pub hop : ℕ
   pub w : SendWindow
   pub device : x.device ≡ s.device
@@ -132,32 +125,32 @@ pub record IsComing (plant : Plant) (base : FramePlan) (stops : List Stop) (n : 
   pub starter : HasStarter plant stops n x.anchor.0
   pub small : x.latest + MAX_DELAY ≤ n * (4 * MAX_DELAY)
 
-abbrev pub Comes : Plant → FramePlan → List Stop → ℕ → Stop → Option Arrival → Type 0
-Comes plant base stops n s None = s.entry.rx_port ≡ 0
-Comes plant base stops n s (Some x) = IsComing plant base stops n s x
+abbrev pub MayArriveAs : Plant → FramePlan → List Stop → ℕ → Stop → Option Arrival → Type 0
+MayArriveAs plant base stops n s None = s.entry.rx_port ≡ 0
+MayArriveAs plant base stops n s (Some x) = ArrivesAs plant base stops n s x
 
 -- a stop at a place of the list
 pub record IsStopAt (plant : Plant) (base : FramePlan) (stops : List Stop) (n : ℕ) (s : Stop) : Type 0 where
   pub stands : entry_of base s.device.0 ≡ Some s.entry
-  pub window : HasWindow (alone plant base) base.frame.0 s.device.0 (window_of s)
+  pub window : HasWindow (alone plant base) base.frame.0 s.device.0 (stop_window s)
   pub ordered : s.least ≤ s.greatest
   pub small : s.greatest ≤ n * (4 * MAX_DELAY)
   pub links : HasLinks (alone plant base) base.frame.0 s.hops s.device.0
   pub few : s.hops ≤ n
   pub starter : HasStarter plant stops (n + 1) s.anchor.0
-  pub comes : Comes plant base stops n s s.arrival
+  pub comes : MayArriveAs plant base stops n s s.arrival
 
 -- Of a place and a port and another place and port, the first ones come first.
 abbrev pub Precedes : ℕ → ℕ → ℕ → ℕ → Type 0
 Precedes n port other by = (n < other) ⊎ ((n ≡ other) × (port < by))
 
-abbrev pub AreApart : List Stop → Type 0
-AreApart stops = AllPairs (λ (s t : Stop). s.device.0 ≢ t.device.0) stops
+abbrev pub StopsDiffer : List Stop → Type 0
+StopsDiffer stops = AllPairs (λ (s t : Stop). s.device.0 ≢ t.device.0) stops
 
 -- The stops, where the ports before a place and port are done.
 pub record AreStopsTo (plant : Plant) (base : FramePlan) (stops : List Stop) (at port : ℕ) : Type 0 where
   pub each : (n : ℕ) (s : Stop) → slice_get stops n ≡ Some s → IsStopAt plant base stops n s
-  pub apart : AreApart stops
+  pub apart : StopsDiffer stops
   pub first : (s : Stop) × (slice_get stops 0 ≡ Some s) × (s.entry.rx_port ≡ 0)
   pub next : (n by : ℕ) (s : Stop) (far : DevId × PortNo) → slice_get stops n ≡ Some s → Precedes n by at port →
       Leaves s.entry by → peer_of plant s.device.0 by ≡ Some far → IsListed stops far.0.0

@@ -5,7 +5,7 @@ ghost use Rattle.irt_base.specs.declared.plants.Demand.{Demand};
 ghost use Rattle.irt_route.specs.Routes.{IsRoutesOf};
 ghost use Rattle.link_index.specs.Index.{IsIndexOf, peer_in};
 ghost use Rattle.fit_rules.specs.Order.{IsDemandAt, parents_of};
-ghost use Rattle.frame_ways.specs.Entries.{IsBase, IsEntryAt, rx_port_of, is_sent_over, IsTxBit};
+ghost use Rattle.frame_ways.specs.Entries.{IsBase, IsTreeEntryAt, rx_port_of, is_sent_over, IsTxBit};
 
 use fit_rules::frame_plan::FramePlan;
 use irt_base::blocks::Entry;
@@ -55,7 +55,7 @@ fn entry_at(
     requires index { IsIndexOf plant.now index.now }
     requires there { number < length plant.now.demands }
     ensures { (d : Demand) → IsDemandAt plant.now number d →
-        IsEntryAt plant.now (parents_of routes.now number) d device.0 result }
+        IsTreeEntryAt plant.now (parents_of routes.now number) d device.0 result }
 {
     ways_are_one();
     parents_of_trees();

@@ -4,7 +4,7 @@ ghost use Rattle.std.specs.Prelude.{◌≡◌, ◌+◌, ◌^◌, ◌<◌, ℕ, l
 ghost use Rattle.plant_rules.specs.Meets.{MeetsRules};
 ghost use Rattle.frame_ways.specs.declared.stops.Stop.{Stop};
 ghost use Rattle.frame_ways.specs.Layout.{AreSendingsTo, IsUsableStop, HasAfter, IsSmallArrival, AreAnchorsTo, IsMostHops, IsRaised};
-ghost use Rattle.frame_ways.specs.Stops.{AreApart};
+ghost use Rattle.frame_ways.specs.Stops.{StopsDiffer};
 
 use crate::frame_way::Arrival;
 use crate::stops::{Stop, is_starter};
@@ -19,7 +19,7 @@ use std::alloc::Global;
 
 /// The sendings of all stops.
 pub fn sendings_of(alloc: Global, stops: &[Stop]) -> Result<Items<Sending>, NoMemory>
-    requires apart { AreApart stops.now }
+    requires apart { StopsDiffer stops.now }
     requires low { (n : ℕ) (s : Stop) → slice_get stops.now n ≡ Some s → s.entry.tx < 2 ^ 8 }
     ensures { IfOk result (AreSendingsTo stops.now (length stops.now) 0) }
 {
@@ -32,7 +32,7 @@ pub fn sendings_of(alloc: Global, stops: &[Stop]) -> Result<Items<Sending>, NoMe
 
 /// Adds the sendings of a stop.
 fn add_sendings(stops: &[Stop], at: usize, sendings: &mut Items<Sending>) -> Result<(), NoMemory>
-    requires apart { AreApart stops.now }
+    requires apart { StopsDiffer stops.now }
     requires low { (n : ℕ) (s : Stop) → slice_get stops.now n ≡ Some s → s.entry.tx < 2 ^ 8 }
     requires there { at < length stops.now }
     requires sendings { AreSendingsTo stops.now at 0 sendings.old }
@@ -56,7 +56,7 @@ fn add_sendings(stops: &[Stop], at: usize, sendings: &mut Items<Sending>) -> Res
 /// The devices that start the frame by offsets of their own.
 pub fn anchors_of(alloc: Global, plant: &Plant, stops: &[Stop]) -> Result<Items<Anchor>, NoMemory>
     requires rules { MeetsRules plant.now }
-    requires apart { AreApart stops.now }
+    requires apart { StopsDiffer stops.now }
     requires usable { (n : ℕ) (s : Stop) → slice_get stops.now n ≡ Some s → IsUsableStop plant.now stops.now n s }
     ensures { IfOk result (AreAnchorsTo plant.now stops.now (length stops.now)) }
 {

@@ -1,4 +1,5 @@
-//! The way of a demand's frame in plain numbers: its entries, the sendings and arrivals by the offsets of anchors.
+//! The way of a demand's frame in plain numbers: its entries, and its sendings and arrivals in times after the offsets
+//! of anchors.
 #![tactic(auto)]
 
 mod entries;

@@ -6,7 +6,7 @@ ghost use Rattle.plant_rules.specs.Meets.{MeetsRules};
 ghost use Rattle.link_index.specs.Index.{IsIndexOf};
 ghost use Rattle.plan_rules.specs.Way.{Leaves, IsAbsolute};
 ghost use Rattle.fit_rules.specs.Shape.{entry_of};
-ghost use Rattle.frame_ways.specs.Stops.{IsEntryTree, IsProvided, IsStarter, IsListed, IsFirstStop, IsNextStop, IsBehind, IsAdded, AreStopsTo};
+ghost use Rattle.frame_ways.specs.Stops.{IsEntryTree, IsProvided, IsStarter, IsListed, IsFirstStop, IsNextStop, IsStopBehind, IsAdded, AreStopsTo};
 
 use crate::frame_way::Arrival;
 use fit_rules::frame_plan::FramePlan;
@@ -36,7 +36,7 @@ pub struct Stop {
     pub hops: u32,
 }
 
-/// The stops of a frame. Its time is linear in the ports of the devices, and for each stop in the stops before it.
+/// The stops of a frame, from its provider on. Each device is looked for once among those listed so far.
 pub fn stops_of(
     alloc: Global,
     plant: &Plant,
@@ -184,7 +184,7 @@ fn stop_behind(plant: &Plant, from: Stop, hop: u32, entry: Entry, arrival: Arriv
     requires ordered { from.least ≤ from.greatest }
     requires few { from.hops ≤ MAX_DEVICES }
     requires near { hop ≤ 3 * MAX_DELAY }
-    ensures { IsBehind plant.now from hop entry arrival result }
+    ensures { IsStopBehind plant.now from hop entry arrival result }
 {
     let device = arrival.device;
     let (anchor, least, greatest) = if is_starter(plant, device, entry) {

@@ -22,8 +22,8 @@ use placement::layout::Layout;
 use plan_rules::ways::ways_are_one;
 use std::alloc::Global;
 
-/// The way of the frame of a demand, of which the plant has one at this index. Its time is about linear in the ports
-/// of the plant's devices.
+/// The way of the frame of a demand, of which the plant has one at this index. Its time is linear in the ports of the
+/// plant's devices, and in devices times consumers.
 pub fn way_of(
     alloc: Global,
     plant: &Plant,

@@ -1,10 +1,10 @@
-use Rattle.std.proofs.Common.{◌≡◌, ◌+◌, ◌<◌, ◌≤◌, ℕ, List, None, length, get_or, refl, sym, ◌∙◌, subst, arith}
+use Rattle.std.proofs.Common.{◌≡◌, length, sym, ◌∙◌, subst, arith}
 use Rattle.std.proofs.lemmas.List.{length_push}
 use Rattle.std.proofs.lemmas.Option.{same_Some}
 use Rattle.irt_base.specs.declared.plants.Demand.{Demand}
 use Rattle.plant_rules.specs.Meets.{IsDemand}
 use Rattle.fit_rules.specs.Order.{parents_of}
-use Rattle.frame_ways.specs.Entries.{IsBase, IsEntryAt}
+use Rattle.frame_ways.specs.Entries.{IsBase, IsTreeEntryAt}
 use Rattle.frame_ways.proofs.Lists.{each_at, item_read}
 use Rattle.frame_ways.proofs.Made.{base_made, each_more}
 use Rattle.frame_ways.proofs.entries.base_plan.Goals as goal
@@ -12,7 +12,7 @@ use Rattle.frame_ways.proofs.entries.base_plan.Goals as goal
 pub loop-device-preserved : goal.loop-device-preserved
 loop-device-preserved c = rw c.in_ok-push.ensures.ok (record {
   count = omega (arith, length_push c.loop-device.entries c.entry_at.result);
-  each = λ d is. each_more (IsEntryAt c.args.plant.now (parents_of c.args.routes.now c.args.number) d) c.loop-device.entries c.loop-device.device c.entry_at.result
+  each = λ d is. each_more (IsTreeEntryAt c.args.plant.now (parents_of c.args.routes.now c.args.number) d) c.loop-device.entries c.loop-device.device c.entry_at.result
       c.loop-device.invariant.count (c.loop-device.invariant.each d is) (c.entry_at.ensures d is);
 })
 

@@ -1,4 +1,4 @@
-use Rattle.std.proofs.Common.{◌≡◌, sym, ◌∙◌, arith}
+use Rattle.std.proofs.Common.{sym, ◌∙◌, arith}
 use Rattle.link_index.specs.Index.{peer_in}
 use Rattle.fit_rules.specs.Order.{parents_of}
 use Rattle.frame_ways.proofs.Bits.{bit_more, bit_skipped}

@@ -1,4 +1,4 @@
-use Rattle.std.proofs.Common.{◌≡◌, sym, ◌∙◌, arith}
+use Rattle.std.proofs.Common.{sym, ◌∙◌, arith}
 use Rattle.std.proofs.lemmas.Bool.{false≢true}
 use Rattle.frame_ways.proofs.Lists.{item_there, some_at}
 use Rattle.frame_ways.proofs.Sent.{sent_more, sent_skipped, sent_all}

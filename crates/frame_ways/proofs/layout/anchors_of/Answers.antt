@@ -1,6 +1,5 @@
-use Rattle.std.proofs.Common.{◌≡◌, ℕ, length, sym, ◌∙◌, subst, arith}
+use Rattle.std.proofs.Common.{sym, ◌∙◌}
 use Rattle.std.proofs.lemmas.Bool.{false≢true}
-use Rattle.frame_ways.specs.Layout.{AreAnchorsTo}
 use Rattle.frame_ways.proofs.Anchored.{none_anchored, anchor_more, anchor_skipped}
 use Rattle.frame_ways.proofs.Lists.{item_there}
 use Rattle.frame_ways.proofs.layout.anchors_of.Goals.{then-is_starter+in_ok-push, else-is_starter}

@@ -1,4 +1,4 @@
-use Rattle.std.proofs.Common.{◌≡◌, sym, ◌∙◌, ap, arith}
+use Rattle.std.proofs.Common.{sym, ◌∙◌, ap}
 use Rattle.std.specs.Prelude.{◌++◌, ◌∷◌, []}
 use Rattle.frame_ways.specs.declared.stops.Stop.{Stop}
 use Rattle.frame_ways.proofs.Lists.{next_given, next_none}

@@ -1,4 +1,3 @@
-use Rattle.std.proofs.Common.{◌≡◌, sym, ◌∙◌, arith}
 use Rattle.std.proofs.lemmas.Result.{on_ok_weaker}
 use Rattle.frame_ways.proofs.Devices.{small_stop}
 use Rattle.frame_ways.proofs.Growth.{stop_grown}

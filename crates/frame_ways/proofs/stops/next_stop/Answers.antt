@@ -1,4 +1,6 @@
-use Rattle.std.proofs.Common.{◌≡◌, sym, ◌∙◌, ap, arith}
+use Rattle.std.proofs.Common.{sym, ◌∙◌}
+use Rattle.irt_base.specs.declared.numbers.DevId.{DevId}
+use Rattle.irt_base.specs.declared.numbers.PortNo.{PortNo}
 use Rattle.frame_ways.proofs.Lists.{no_entry}
 use Rattle.frame_ways.proofs.Onward.{far_entry, next_of}
 use Rattle.frame_ways.proofs.stops.next_stop.Goals as goal
@@ -6,7 +8,8 @@ use Rattle.frame_ways.proofs.stops.next_stop.Goals as goal
 pub unreachable-requires : goal.unreachable-requires
 unreachable-requires c =
     let receiver = c.requires.tree.sent c.args.stop.device.0 c.args.port.0 c.args.stop.entry c.requires.stands c.requires.leaves in
-    no_entry receiver.far (sym c.in_default.is ∙ c.peer.ensures ∙ c.requires.index.peers c.args.stop.device.0 c.args.port.0 ∙ receiver.over)
+    let end : DevId × PortNo = (record { 0 = receiver.receiver }, record { 0 = receiver.e.rx_port }) in
+    no_entry end (sym c.in_default.is ∙ c.peer.ensures ∙ c.requires.index.peers c.args.stop.device.0 c.args.port.0 ∙ receiver.leads)
 
 pub unreachable-requires-in_default-entry_of : goal.unreachable-requires-in_default-entry_of
 unreachable-requires-in_default-entry_of c =

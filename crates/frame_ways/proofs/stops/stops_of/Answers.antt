@@ -1,5 +1,4 @@
-use Rattle.std.proofs.Common.{◌≡◌, ◌++◌, ◌∷◌, [], ℕ, length, sym, ◌∙◌, ap, subst, arith}
-use Rattle.frame_ways.specs.Stops.{AreStopsTo}
+use Rattle.std.proofs.Common.{arith}
 use Rattle.frame_ways.proofs.Devices.{few_stops}
 use Rattle.frame_ways.proofs.Growth.{first_stops}
 use Rattle.frame_ways.proofs.stops.stops_of.Goals as goal
