@@ -1,15 +1,14 @@
 -- The errors to which messages set clocks, by a table of what they meet.
-use Rattle.std.proofs.Common.{◌≡◌, ℕ, ◌+◌, ◌*◌, ◌≤◌, ◌<◌, Bool, true, false, ◌||◌, List, [], ◌∷◌, drop, length, Option, Some, None, slice_get, refl, sym, ◌∙◌, ap, ap₂, subst, inl, inr, arith, All, if◌then◌else◌}
+use Rattle.std.proofs.Common.{◌≡◌, ℕ, ◌<◌, Bool, ◌||◌, List, [], ◌∷◌, drop, length, Option, Some, None, refl, ◌∙◌, ap, ap₂, subst, inl, inr, arith, All, if◌then◌else◌}
 use Rattle.std.specs.List.{list_any}
-use Rattle.std.specs.Prelude.{ℤ, pos, ◌+ℤ◌}
-use Rattle.std.proofs.lemmas.List.Elements.{All-head, All-tail, All-nil, All-weaker, All-drop}
-use Rattle.std.proofs.lemmas.Option.{slice_get_cases, slice_get_within, get_or_from_slice_get}
+use Rattle.std.specs.Prelude.{ℤ, ◌+ℤ◌}
+use Rattle.std.proofs.lemmas.List.Elements.{All-head, All-tail, All-weaker, All-drop}
+use Rattle.std.proofs.lemmas.Option.{slice_get_cases, get_or_from_slice_get}
 use Rattle.irt_base.specs.declared.numbers.DevId.{DevId}
-use Rattle.sync_world.specs.Clocks.{base_by, base_of, ends_error, is_lost_on, line_error, total, travel_error}
+use Rattle.sync_world.specs.Clocks.{base_by, base_of, ends_error, is_lost_on, line_error, total}
 use Rattle.sync_world.specs.Domain.{IsDomain, IsLine, line_of, no_line, walk_of}
 use Rattle.sync_world.specs.Lines.{passage_of}
 use Rattle.sync_world.specs.Table.{IsTableAt, passage_in}
-use Rattle.sync_world.specs.declared.domain.ClockLine.{ClockLine}
 use Rattle.sync_world.specs.declared.domain.Domain.{Domain}
 use Rattle.sync_world.specs.declared.lines.LinePassages.{LinePassages}
 use Rattle.sync_world.specs.declared.lines.Passage.{Passage}

@@ -1,23 +1,21 @@
 -- How wrong measured delays and clocks may be.
-use Rattle.std.proofs.Common.{◌≡◌, ℕ, zero, suc, ◌+◌, ◌-◌, ◌*◌, ◌/◌, ◌%◌, ◌==◌, ◌<◌, ◌≤◌, Bool, true, false, List, [], ◌∷◌, drop, map, length, get_or, Option, Some, None, IfSome, unwrap_or, if◌then◌else◌, refl, sym, ◌∙◌, ap, subst, inl, inr, arith, All, mod-lt, mul-le-mul, mul_assoc, mul-le-mul_left}
+use Rattle.std.proofs.Common.{◌≡◌, ℕ, zero, suc, ◌+◌, ◌*◌, ◌/◌, ◌%◌, ◌==◌, ◌<◌, ◌≤◌, Bool, true, false, List, [], drop, map, length, get_or, Option, Some, None, unwrap_or, if◌then◌else◌, refl, sym, ◌∙◌, ap, subst, arith, All, mod-lt, mul-le-mul, mul-le-mul_left}
 use Rattle.std.specs.Prelude.{ℤ, pos, ◌+ℤ◌}
 use Rattle.std.specs.List.{range_with_len}
-use Rattle.std.proofs.lemmas.Bool.{cases_Bool}
 use Rattle.std.proofs.lemmas.Int.{ints}
 use Rattle.std.proofs.lemmas.List.{length-drop}
-use Rattle.std.proofs.lemmas.List.Elements.{All-drop, All-map}
+use Rattle.std.proofs.lemmas.List.Elements.{All-map}
 use Rattle.std.proofs.lemmas.List.FromFn.{length-map-range_with_len}
 use Rattle.irt_base.specs.Cycle.{IsNear, budget_time}
 use Rattle.irt_base.specs.declared.numbers.DevId.{DevId}
 use Rattle.line_delay.specs.Honest.{IsKnown, IsMeasurable, Stamps, after_all}
 use Rattle.plan_rules.specs.World.{IsWithinWindow}
 use Rattle.seed_draws.specs.Draws.{draw_of, signed_within}
-use Rattle.sync_world.specs.Clocks.{age_of, base_by, base_in, base_of, clock_at, drifted, ends_error, is_lost_on, later, line_error, set_by, total, travel_error}
-use Rattle.sync_world.specs.Domain.{IsDomain, IsLine, delay_of, line_of, walk_of}
-use Rattle.sync_world.specs.Lines.{begun, exchanged, halves_after, measured, measured_at, passage_of, stamped}
+use Rattle.sync_world.specs.Clocks.{age_of, base_in, base_of, clock_at, drifted, ends_error, is_lost_on, later, line_error, set_by, travel_error}
+use Rattle.sync_world.specs.Domain.{IsDomain, delay_of, walk_of}
+use Rattle.sync_world.specs.Lines.{begun, exchanged, halves_after, measured, passage_of, stamped}
 use Rattle.sync_world.specs.declared.clocks.Clock.{Clock}
 use Rattle.sync_world.specs.declared.domain.Domain.{Domain}
-use Rattle.sync_world.specs.declared.lines.Passage.{Passage}
 use Rattle.sync_world.specs.declared.lines.TheConstants.{FIRST_EXCHANGES, STAY_TIME}
 use Rattle.sync_world.proofs.Bases.{line_in_range}
 use Rattle.sync_world.proofs.Median.{IsOnly, known_is}

@@ -1,7 +1,6 @@
 -- The domain of a plant is in range.
-use Rattle.std.proofs.Common.{◌≡◌, ℕ, zero, suc, ◌+◌, ◌<◌, ◌≤◌, List, [], ◌∷◌, map, length, get_or, Option, Some, None, option_map, option_and_then, slice_get, unwrap_or, refl, sym, ◌∙◌, ap, subst, inl, inr, arith, All}
-use Rattle.std.specs.List.{AllByRecursion, range_with_len}
-use Rattle.std.proofs.lemmas.Bool.{cases_lt}
+use Rattle.std.proofs.Common.{◌≡◌, ℕ, zero, suc, ◌<◌, ◌≤◌, List, map, length, get_or, Option, Some, None, option_map, option_and_then, slice_get, unwrap_or, sym, ap, subst, inl, inr, arith, All}
+use Rattle.std.specs.List.{range_with_len}
 use Rattle.std.proofs.lemmas.List.Elements.{All-cons, All-from_recursion, All-map, All-nil}
 use Rattle.std.proofs.lemmas.List.FromFn.{get_or-range_with_len, length-map-range_with_len, length-range_with_len}
 use Rattle.std.proofs.lemmas.Option.{slice_get_cases, get_or_from_slice_get}
@@ -13,7 +12,7 @@ use Rattle.irt_base.specs.declared.plants.Link.{Link}
 use Rattle.irt_base.specs.declared.plants.Plant.{Plant}
 use Rattle.irt_route.specs.Clocks.{ClockTable, IsClockTreeOf, clock_parent, hops_in}
 use Rattle.plant_rules.specs.Meets.{IsLink}
-use Rattle.sync_world.specs.Domain.{IsDomain, IsLine, clock_line, delay_from, device_of, domain_of, link_delay, walk_up}
+use Rattle.sync_world.specs.Domain.{IsDomain, IsLine, clock_line, delay_from, device_of, domain_of, walk_up}
 use Rattle.sync_world.specs.declared.domain.ClockLine.{ClockLine}
 use Rattle.sync_world.specs.declared.domain.Domain.{Domain}
 use Rattle.sync_world.proofs.Walks.{length-walk_up}

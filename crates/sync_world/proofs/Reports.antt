@@ -1,7 +1,6 @@
 -- The line of a report, field by field.
-use Rattle.std.proofs.Common.{◌≡◌, ℕ, ◌+◌, ◌≤◌, List, map, length, Option, ap, ◌∙◌, arith}
+use Rattle.std.proofs.Common.{◌≡◌, ℕ, ◌+◌, ◌≤◌, List, length, Option, ap, ◌∙◌, arith}
 use Rattle.std.specs.Prelude.{ℤ}
-use Rattle.std.specs.List.{range_with_len}
 use Rattle.std.proofs.lemmas.List.FromFn.{length-map-range_with_len}
 use Rattle.irt_base.specs.declared.numbers.DevId.{DevId}
 use Rattle.irt_base.specs.declared.plants.Plant.{Plant}
@@ -12,7 +11,6 @@ use Rattle.sync_world.specs.Lines.{measured, syncs_in}
 use Rattle.sync_world.specs.Report.{muted_in, report_line, worst_in}
 use Rattle.sync_world.specs.declared.domain.Domain.{Domain}
 use Rattle.sync_world.specs.declared.lines.TheConstants.{FIRST_EXCHANGES}
-use Rattle.sync_world.specs.declared.report.ReportLine.{ReportLine}
 
 pub line_is : (plant : Plant) (tree : ClockTable) (domain : Domain) (cycles : ℕ) (device : DevId) (errors : List (Option ℤ))
     (hops delay known budget muted worst : ℕ) → errors ≡ heard_errors domain plant.sync.timeout device.0 cycles →

@@ -1,5 +1,5 @@
 -- The rows of a PTCP world, and how they keep to budgets.
-use Rattle.std.proofs.Common.{◌≡◌, ℕ, ◌+◌, ◌-◌, ◌*◌, ◌%◌, ◌==◌, ◌&&◌, ◌<◌, ◌≤◌, ◌↔◌, Bool, true, false, not, if◌then◌else◌, List, [], ◌∷◌, map, length, get_or, Option, Some, None, option_map, slice_get, slice_index, unwrap_or, refl, sym, ◌∙◌, ap, ap₂, subst, inl, inr, arith, All, mod-lt, mul_assoc, mul-le-mul_left, zero-add}
+use Rattle.std.proofs.Common.{◌≡◌, ℕ, ◌+◌, ◌-◌, ◌*◌, ◌%◌, ◌==◌, ◌&&◌, ◌<◌, ◌≤◌, Bool, true, false, not, if◌then◌else◌, List, [], ◌∷◌, map, length, get_or, Option, Some, None, slice_get, slice_index, unwrap_or, refl, sym, ◌∙◌, ap, ap₂, subst, inl, inr, arith, All, mod-lt, mul_assoc, mul-le-mul_left, zero-add}
 use Rattle.std.specs.Prelude.{ℤ, pos}
 use Rattle.std.specs.List.{enumerate_from, range_with_len}
 use Rattle.std.proofs.lemmas.Bool.{cases_Bool, ltb-false, false≢true}
@@ -11,20 +11,18 @@ use Rattle.std.proofs.lemmas.Option.{get_or_from_slice_get, slice_get_within}
 use Rattle.irt_base.specs.Cycle.{budget_time}
 use Rattle.irt_base.specs.Valid.{IsWithin}
 use Rattle.irt_base.specs.declared.blocks.Bundle.{Bundle}
-use Rattle.irt_base.specs.declared.limits.TheConstants.{MAX_ERROR}
 use Rattle.irt_base.specs.declared.plants.Plant.{Plant}
 use Rattle.irt_route.specs.Clocks.{ClockTable, clock_budget, hops_in}
 use Rattle.irt_world.specs.Forwardings.{HasRange, forwardings}
-use Rattle.irt_world.specs.Rows.{IsError, IsRowOf, error_in, world_row}
+use Rattle.irt_world.specs.Rows.{IsError, IsRowOf, error_in}
 use Rattle.irt_world.specs.Seeded.{seeded_delay, seeded_delays}
 use Rattle.irt_world.specs.declared.forwardings.Forwarding.{Forwarding}
 use Rattle.irt_world.specs.declared.rows.Row.{Row}
-use Rattle.plan_rules.specs.World.{IsInStep, IsWithinWindow}
+use Rattle.plan_rules.specs.World.{IsWithinWindow}
 use Rattle.seed_draws.specs.Draws.{draw_of}
 use Rattle.sync_world.specs.Clocks.{age_of, clock_at, clock_error, heard_error, heard_errors, is_mute, is_silent}
 use Rattle.sync_world.specs.Domain.{IsDomain, clock_line, domain_of, no_line, walk_of}
 use Rattle.sync_world.specs.World.{HasBudgets, IsInStepAsHeard, KeepsBudgets, all_errors, error_at, ptcp_row, row_by, row_error, row_errors}
-use Rattle.sync_world.specs.declared.clocks.Clock.{Clock}
 use Rattle.sync_world.specs.declared.domain.ClockLine.{ClockLine}
 use Rattle.sync_world.specs.declared.domain.Domain.{Domain}
 use Rattle.sync_world.proofs.Tables.{made_at}

@@ -1,6 +1,6 @@
 -- A device mutes as a slave does.
-use Rattle.std.proofs.Common.{◌≡◌, ◌≢◌, ℕ, zero, suc, ◌+◌, ◌-◌, ◌*◌, ◌/◌, ◌%◌, ◌==◌, ◌&&◌, ◌<◌, ◌≤◌, ◌↔◌, Bool, true, false, not, nat_lt, if◌then◌else◌, List, [], ◌∷◌, ◌++◌, Option, Some, None, refl, sym, ◌∙◌, ap, ap₂, subst, inl, inr, arith, append-nil, div-add-mod', lt_of_mul-lt-mul_right}
-use Rattle.std.specs.Prelude.{ℤ, pos}
+use Rattle.std.proofs.Common.{◌≡◌, ℕ, zero, suc, ◌+◌, ◌-◌, ◌*◌, ◌/◌, ◌%◌, ◌==◌, ◌&&◌, ◌<◌, ◌≤◌, ◌↔◌, Bool, true, false, not, nat_lt, if◌then◌else◌, List, [], ◌∷◌, ◌++◌, Option, Some, None, refl, sym, ◌∙◌, ap, ap₂, subst, inl, inr, arith, append-nil, div-add-mod', lt_of_mul-lt-mul_right}
+use Rattle.std.specs.Prelude.{ℤ}
 use Rattle.std.proofs.lemmas.Bool.{cases_Bool, eqb-true}
 use Rattle.std.proofs.lemmas.Bool.Decides.{nat_tests}
 use Rattle.ptcp_core.specs.Clocks.{SlaveState, after_event, fresh_slave, is_newer, offset_of, state_by, state_of}
@@ -9,9 +9,8 @@ use Rattle.ptcp_core.specs.declared.messages.SyncMsg.{SyncMsg}
 use Rattle.ptcp_core.specs.declared.slave.Accepted.{Accepted}
 use Rattle.ptcp_core.specs.declared.slave.SyncEvent.{SyncEvent}
 use Rattle.ptcp_core.specs.declared.slave.SyncEvent.TheVariants.{Sync, Tick}
-use Rattle.ptcp_core.specs.declared.slave.SyncState.{SyncState}
 use Rattle.ptcp_core.specs.declared.slave.SyncState.TheVariants.{Muted, Synced}
-use Rattle.sync_world.specs.Clocks.{base_in, base_of, clock_at, drifted, first_clock, is_mute, is_silent, set_by}
+use Rattle.sync_world.specs.Clocks.{base_in, base_of, clock_at, is_mute, is_silent, set_by}
 use Rattle.sync_world.specs.Events.{AreInTurn, Deliveries, delivered, events_to}
 use Rattle.sync_world.specs.declared.clocks.Clock.{Clock}
 use Rattle.sync_world.specs.declared.domain.Domain.{Domain}

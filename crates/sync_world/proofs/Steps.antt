@@ -1,5 +1,5 @@
 -- Clocks, a cycle later, and what they say.
-use Rattle.std.proofs.Common.{◌≡◌, ℕ, ◌+◌, ◌*◌, suc, Bool, true, false, ◌==◌, ◌&&◌, not, if◌then◌else◌, Option, Some, None, refl, sym, ◌∙◌, ap, ap₂, arith}
+use Rattle.std.proofs.Common.{◌≡◌, ℕ, ◌+◌, ◌*◌, suc, Bool, true, false, ◌==◌, ◌&&◌, not, if◌then◌else◌, Option, Some, None, refl, ◌∙◌, ap, ap₂, arith}
 use Rattle.std.specs.Prelude.{ℤ, pos}
 use Rattle.sync_world.specs.Clocks.{clock_at, first_clock, heard_error, is_silent, later}
 use Rattle.sync_world.specs.Table.{heard_by}

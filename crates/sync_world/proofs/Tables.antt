@@ -1,11 +1,10 @@
 -- Tables give what they were made of.
-use Rattle.std.proofs.Common.{◌≡◌, ℕ, zero, ◌+◌, ◌-◌, ◌*◌, ◌/◌, ◌%◌, ◌<◌, ◌≤◌, min, List, map, length, get_or, Option, Some, None, option_map, option_and_then, slice_get, unwrap_or, refl, sym, ◌∙◌, ap, subst, arith, lt_of_mul-lt-mul_right}
+use Rattle.std.proofs.Common.{◌≡◌, ℕ, ◌+◌, ◌*◌, ◌<◌, ◌≤◌, List, map, length, Option, Some, option_map, option_and_then, slice_get, unwrap_or, sym, ◌∙◌, ap, arith, lt_of_mul-lt-mul_right}
 use Rattle.std.specs.Int.{div_ceil}
 use Rattle.std.specs.List.{range_with_len}
 use Rattle.std.proofs.lemmas.Grind.{div_ceil_times}
 use Rattle.std.proofs.lemmas.List.FromFn.{get_or-map-range_with_len, length-map-range_with_len}
 use Rattle.std.proofs.lemmas.Option.{same_Some, slice_get-get_or, slice_get_within}
-use Rattle.irt_base.specs.declared.numbers.DevId.{DevId}
 use Rattle.sync_world.specs.Domain.{IsDomain}
 use Rattle.sync_world.specs.Lines.{all_passages, line_passages, measured, passage_of, syncs_in}
 use Rattle.sync_world.specs.Report.{known_in}

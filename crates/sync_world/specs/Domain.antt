@@ -1,5 +1,5 @@
 -- The sync domain of a plant: over which links each device hears the master.
-use Rattle.std.specs.Prelude.{◌≡◌, ℕ, zero, suc, ◌≤◌, ◌<◌, List, [], ◌∷◌, map, length, All, Option, Some, None, option_map, option_and_then, slice_get, unwrap_or}
+use Rattle.std.specs.Prelude.{ℕ, zero, suc, ◌≤◌, ◌<◌, List, [], ◌∷◌, map, length, All, Option, Some, None, option_map, option_and_then, slice_get, unwrap_or}
 use Rattle.std.specs.List.{range_with_len}
 use Rattle.irt_base.specs.Wiring.{link_number}
 use Rattle.irt_base.specs.declared.limits.TheConstants.{MAX_DELAY, MAX_DEVICES, MAX_DRIFT, MAX_SEND, MAX_STAMP}

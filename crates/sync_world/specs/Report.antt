@@ -1,5 +1,5 @@
 -- The report of a domain.
-use Rattle.std.specs.Prelude.{ℕ, suc, ◌+◌, ◌-◌, ◌/◌, max, ℤ, List, [], ◌∷◌, ◌++◌, map, length, decimal, Option, Some, None, option_map, slice_get, unwrap_or}
+use Rattle.std.specs.Prelude.{ℕ, suc, ◌+◌, ◌-◌, max, ℤ, List, [], ◌∷◌, ◌++◌, map, length, decimal, Option, Some, None, option_map, slice_get, unwrap_or}
 use Rattle.std.specs.Int.RustNames.{unsigned_abs}
 use Rattle.std.specs.List.{range_with_len, flat_map}
 use Rattle.irt_base.specs.declared.plants.Device.{Device}

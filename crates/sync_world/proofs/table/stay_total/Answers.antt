@@ -1,4 +1,4 @@
-use Rattle.std.proofs.Common.{◌^◌, ◌∙◌, ap, arith}
+use Rattle.std.proofs.Common.{◌^◌, ap, arith}
 use Rattle.std.proofs.lemmas.Int.{ints}
 use Rattle.sync_world.specs.Table.{passage_in}
 use Rattle.sync_world.specs.declared.lines.Passage.{Passage}
