@@ -28,13 +28,15 @@ IsTreeEntryAt plant parents demand device (Some e) =
 abbrev pub rx_port_of : Peers → Parents → ℕ → ℕ → Option ℕ
 rx_port_of peers parents provider device =
     if device == provider then Some 0 else
-    option_and_then (λ (from : DevId × PortNo). option_map (λ (far : DevId × PortNo). far.1.0) (peers from.0.0 from.1.0))
+    option_and_then
+    (λ (from : DevId × PortNo). option_map (λ (far : DevId × PortNo). far.1.0) (peers from.0.0 from.1.0))
     (parent_at parents device)
 
 -- this is the device and port from which the tree comes to another device
 abbrev pub is_parent_of : Parents → ℕ → ℕ → ℕ → Bool
 is_parent_of parents device port child =
-    option_map_or (λ (from : DevId × PortNo). (from.0.0 == device) && (from.1.0 == port)) (parent_at parents child) false
+    option_map_or (λ (from : DevId × PortNo). (from.0.0 == device) && (from.1.0 == port))
+    (parent_at parents child) false
 
 -- the tree leaves the device by the port
 abbrev pub is_sent_over : Peers → Parents → ℕ → ℕ → Bool

@@ -49,14 +49,16 @@ pub record IsUsableStop (plant : Plant) (stops : List Stop) (n : ℕ) (s : Stop)
   pub small : IfSome s.arrival IsSmallArrival
   pub starter : IfSome s.arrival (λ x. HasStarter plant stops n x.anchor.0)
 
--- The device may start when it surely has what comes.
+-- The device may start when it surely has what comes: behind an arrival at 800 at the latest, a bridge of at most 3000
+-- and a guard of 2000 the gap is 5800.
 abbrev pub HasAfter : Plant → Stop → Option After → Type 0
 HasAfter plant s None = s.arrival ≡ None
-HasAfter plant s (Some f) = (x : Arrival) × (d : Device) × (s.arrival ≡ Some x) × (slice_get plant.devices s.device.0 ≡ Some d) ×
-    (f.anchor ≡ x.anchor) × (f.gap ≡ x.latest + d.bmax + guard_time plant.window)
+HasAfter plant s (Some f) = (x : Arrival) × (d : Device) × (s.arrival ≡ Some x) ×
+    (slice_get plant.devices s.device.0 ≡ Some d) × (f.anchor ≡ x.anchor) × (f.gap ≡ x.latest + d.bmax + guard_time plant.window)
 
 -- an anchor by one of the first so many stops
-pub record IsAnchorBefore (plant : Plant) (stops : List Stop) (at : ℕ) (anchors : List Anchor) (k : ℕ) (a : Anchor) : Type 0 where
+pub record IsAnchorBefore (plant : Plant) (stops : List Stop) (at : ℕ) (anchors : List Anchor) (k : ℕ)
+    (a : Anchor) : Type 0 where
   pub n : ℕ
   pub s : Stop
   pub there : slice_get stops n ≡ Some s

@@ -61,7 +61,8 @@ pub record StartsAtZero (plant : Plant) (s : Stop) : Type 0 where
   pub least : s.least ≡ 0
   pub greatest : s.greatest ≡ 0
 
--- It starts a hop and a bridge delay after another one.
+-- It starts a hop and a bridge delay after another one. With an anchor before it, a hop of 800 and a bridge of 1000 to
+-- 3000, that is 1800 to 3800.
 pub record StartsBehind (plant : Plant) (from : Stop) (hop : ℕ) (s : Stop) : Type 0 where
   pub relays : ¬ IsStarter plant s.device.0 s.entry
   pub d : Device
@@ -113,8 +114,9 @@ pub record HasStarter (plant : Plant) (stops : List Stop) (count anchor : ℕ) :
   pub here : s.device.0 ≡ anchor
   pub starts : IsStarter plant s.device.0 s.entry
 
--- The frame comes to a stop so, from one before it.
-pub record ArrivesAs (plant : Plant) (base : FramePlan) (stops : List Stop) (n : ℕ) (s : Stop) (x : Arrival) : Type 0 where
+-- The frame comes to a stop so, from one before it: behind starts of 1800 to 3800 and a hop of 800, 4600 at the latest.
+pub record ArrivesAs (plant : Plant) (base : FramePlan) (stops : List Stop) (n : ℕ) (s : Stop)
+    (x : Arrival) : Type 0 where
   pub hop : ℕ
   pub w : SendWindow
   pub device : x.device ≡ s.device
