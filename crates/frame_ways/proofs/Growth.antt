@@ -1,6 +1,7 @@
 -- The list of stops, as it grows.
 use Rattle.std.proofs.Common.{◌≡◌, ◌≢◌, ◌+◌, ◌*◌, ◌<◌, ◌≤◌, ◌++◌, ◌∷◌, [], ℕ, zero, suc, inl, inr, List, Option, Some, None, length, get_or, refl, sym, ◌∙◌, ap, subst, arith}
 use Rattle.std.specs.Prelude.{slice_get}
+use Rattle.std.proofs.lemmas.List.{length_push}
 use Rattle.std.proofs.lemmas.List.Quantifiers.{all_pairs_push}
 use Rattle.std.proofs.lemmas.Option.{same_Some, slice_get_within, slice_get-get_or}
 use Rattle.irt_base.specs.Wiring.{peer_of}
@@ -67,6 +68,10 @@ stop_kept plant base stops new n s is = record {
 
 listed_kept : (stops : List Stop) (new : Stop) (device : ℕ) → IsListed stops device → IsListed (stops ++ new ∷ []) device
 listed_kept stops new device (n, s, there, here) = (n, s, get_kept stops new n s there, here)
+
+pub added_there : (s : Stop) (old new : List Stop) (at : ℕ) → at < length old → IsAdded s old new → at < length new
+added_there s old new at within (inl (fresh, is)) = omega (arith, within, ap (λ (xs : List Stop). length xs) is, length_push old s)
+added_there s old new at within (inr (listed, is)) = omega (arith, within, ap (λ (xs : List Stop). length xs) is)
 
 module _ (plant : Plant) (base : FramePlan) (tree : IsEntryTree plant base) where
   -- the entry of a device, beside no other frame
@@ -233,6 +238,14 @@ module _ (plant : Plant) (base : FramePlan) (tree : IsEntryTree plant base) wher
       apart = are.apart;
       first = are.first;
       next = far_done stops (λ device is. is) (λ _ end leads. (m, old, at_m, same ∙ far_next s next end leads));
+    }
+
+    pub stop_skipped : ¬ Leaves stop.entry port → AreStopsTo plant base stops at (port + 1)
+    stop_skipped stays = record {
+      each = are.each;
+      apart = are.apart;
+      first = are.first;
+      next = far_done stops (λ device is. is) (λ out end leads. absurd (stays out));
     }
 
     pub stop_grown : Leaves stop.entry port → (s : Stop) → IsNextStop plant base stop port s → (new : List Stop) → IsAdded s stops new →
