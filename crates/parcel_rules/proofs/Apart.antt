@@ -36,17 +36,9 @@ use Rattle.parcel_rules.specs.Outside.{is_in_step, is_uncut}
 use Rattle.parcel_rules.specs.Cycle.{all_ports, begun_at, sends, loads_at}
 use Rattle.parcel_rules.specs.Rows.{true_time, sent_row, lost_row, sent_rows_at, lost_rows_at, sent_rows, lost_rows, rows_after, rows_in, parcel_rows}
 use Rattle.parcel_rules.proofs.Lists.{everywhere, All-flat_map, AllPairs-nil, AllPairs-append, AllPairs-map, AllPairs-weaker, AllPairs-flat_map, Across}
+use Rattle.parcel_rules.proofs.Offered.{either_way, AreAll, offers_all}
 use Rattle.parcel_rules.proofs.Ports.{IsFromOne, IsOther, ports_from_one, ports_differ}
 use Rattle.parcel_rules.proofs.Free.{IsReady, sent_free}
-
--- what a fold keeps at each item
-pub fold_keeps : {A B : Type 0} (I : B → Type 0) (f : B → A → B) → ((b : B) (a : A) → I b → I (f b a)) → (b : B) → I b → (xs : List A) → I (fold f b xs)
-fold_keeps I f each b start [] = start
-fold_keeps I f each b start (x ∷ xs) = fold_keeps I f each (f b x) (each b x start) xs
-
-pub either_way : {A : Type 0} (P : A → Type 0) (b : Bool) (x y : A) → P x → P y → P (if b then x else y)
-either_way P true x y one two = one
-either_way P false x y one two = two
 
 -- ---- rows that use no link direction
 
@@ -66,41 +58,13 @@ quiet_across : (plant : Plant) (bundles : List Bundle) (world : List WorldRow) (
 quiet_across plant bundles world k rows others all =
     λ i d below. All-weaker (IsQuiet plant bundles world k) (AreClear _) (λ s quiet. quiet_clear plant bundles world k _ s quiet) others all
 
-pub record AreQuiet (plant : Plant) (bundles : List Bundle) (world : List WorldRow) (k : ℕ) (o : Offers) : Type 0 where
-  pub refused : All (IsQuiet plant bundles world k) o.refused
-  pub came : All (IsQuiet plant bundles world k) o.came
+abbrev pub AreQuiet : Plant → List Bundle → List WorldRow → ℕ → Offers → Type 0
+AreQuiet plant bundles world k o = AreAll (IsQuiet plant bundles world k) o
 
-module _ (plant : Plant) (bundles : List Bundle) (world : List WorldRow) (walks : List (List PortNo)) (k : ℕ) where
-  abbrev Quiet : Offers → Type 0
-  Quiet o = AreQuiet plant bundles world k o
-
-  quiet_offer : (kind : Class) (parcel : Parcel) (o : Offers) (at : Step) → Quiet o → Quiet (offer k kind parcel o at)
-  quiet_offer kind parcel o at quiet =
-      either_way Quiet (length (queue_of kind (gate_at o.gates at)) == QUEUE_ROOM) _ _
-      (record {
-        refused = All-push (IsQuiet plant bundles world k) o.refused _ quiet.refused (record { cycle = refl; row = tt; idle = refl });
-        came = quiet.came;
-      })
-      (record { refused = quiet.refused; came = quiet.came })
-
-  quiet_offer_by : (kind : Class) (parcel : Parcel) (o : Offers) (step : Option Step) → Quiet o → Quiet (offer_by k kind parcel o step)
-  quiet_offer_by kind parcel o None quiet = quiet
-  quiet_offer_by kind parcel o (Some at) quiet = quiet_offer kind parcel o at quiet
-
-  quiet_pass : (o : Offers) (h : Handed) (entry : Option Traffic) → Quiet o → Quiet (pass_on plant walks k o h entry)
-  quiet_pass o h None quiet = quiet
-  quiet_pass o h (Some t) quiet =
-      either_way Quiet (t.target.0 == h.device.0) _ _
-      (record {
-        refused = quiet.refused;
-        came = All-push (IsQuiet plant bundles world k) o.came _ quiet.came (record { cycle = refl; row = tt; idle = refl });
-      })
-      (quiet_offer_by t.«class» h.parcel o _ quiet)
-
-  quiet_offers : (loads : Loads) → Quiet (offered plant walks k loads)
-  quiet_offers loads =
-      fold_keeps Quiet (hand_over plant walks k) (λ o h quiet. quiet_pass o h (slice_get plant.traffic h.parcel.traffic) quiet) (no_offers loads.gates)
-      (record { refused = All-nil (IsQuiet plant bundles world k); came = All-nil (IsQuiet plant bundles world k) }) (loads.flight ++ made_in plant k)
+quiet_offers : (plant : Plant) (bundles : List Bundle) (world : List WorldRow) (walks : List (List PortNo)) (k : ℕ) (loads : Loads) →
+    AreQuiet plant bundles world k (offered plant walks k loads)
+quiet_offers plant bundles world walks k loads =
+    offers_all plant walks k (IsQuiet plant bundles world k) (λ at parcel. record { cycle = refl; row = tt; idle = refl }) (λ h. record { cycle = refl; row = tt; idle = refl }) loads
 
 -- ---- what a port sends
 

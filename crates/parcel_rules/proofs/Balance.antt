@@ -31,7 +31,8 @@ use Rattle.parcel_rules.specs.Loads.{Gates, gate_at, put, Loads, Offers, no_offe
 use Rattle.parcel_rules.specs.Outside.{is_uncut}
 use Rattle.parcel_rules.specs.Cycle.{all_ports, sends, after_sending, handed_on, brought_from, brought, after_sendings}
 use Rattle.parcel_rules.specs.Rows.{sent_row, lost_row, sent_rows_at, lost_rows_at, sent_rows, lost_rows, rows_after}
-use Rattle.parcel_rules.proofs.Apart.{either_way, IsSending, sends_of}
+use Rattle.parcel_rules.proofs.Apart.{IsSending, sends_of}
+use Rattle.parcel_rules.proofs.Offered.{either_way}
 use Rattle.parcel_rules.proofs.Lists.{everywhere, All-flat_map}
 use Rattle.parcel_rules.proofs.Links.{over, sum_over_links}
 use Rattle.parcel_rules.proofs.Placed.{HaveWalks, walk_step, IsOn, IsWaitingAt, AllWait, sent_on, leaves_device}

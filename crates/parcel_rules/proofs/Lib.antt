@@ -12,3 +12,7 @@ pub mod Balance
 pub mod Sending
 pub mod Whole
 pub mod Fate
+pub mod Once
+pub mod Distance
+pub mod Rooms
+pub mod Offered

@@ -138,7 +138,7 @@ module _ (plant : Plant) (walks : List (List PortNo)) where
             (everywhere (λ (s : ℕ). IsOn (handed_to t.source (parcel_of number t s))) (range_with_len (k / t.every * t.count) t.count)
             (λ s. record { t = t; there = there; place = begin }))
 
-    entries_there : All (λ (e : ℕ × Traffic). slice_get plant.traffic e.0 ≡ Some e.1) (enumerate_from 0 plant.traffic)
+    pub entries_there : All (λ (e : ℕ × Traffic). slice_get plant.traffic e.0 ≡ Some e.1) (enumerate_from 0 plant.traffic)
     entries_there = λ k d below.
         let within : k < length plant.traffic = omega (arith, length-enumerate_from 0 plant.traffic) in
         let whole = get_or-enumerate_from 0 plant.traffic k d within in

@@ -28,7 +28,8 @@ use Rattle.parcel_rules.specs.Loads.{Gates, gate_at}
 use Rattle.parcel_rules.specs.Outside.{is_uncut}
 use Rattle.parcel_rules.specs.Cycle.{all_ports, sends, after_sending, handed_on, brought_from, brought}
 use Rattle.parcel_rules.specs.Rows.{sent_row, lost_row, sent_rows_at, lost_rows_at, sent_rows, lost_rows}
-use Rattle.parcel_rules.proofs.Apart.{either_way, IsSending, sends_of}
+use Rattle.parcel_rules.proofs.Apart.{IsSending, sends_of}
+use Rattle.parcel_rules.proofs.Offered.{either_way}
 use Rattle.parcel_rules.proofs.Balance.{AreWeights, held, held_all}
 use Rattle.parcel_rules.proofs.Lists.{everywhere, All-flat_map}
 use Rattle.parcel_rules.proofs.Links.{over, sum_over_links}
@@ -42,7 +43,7 @@ record IsSplit (gate : Waiting) (sent : List Sent) : Type 0 where
 
 module _ (plant : Plant) (rules : MeetsRules plant) (bundles : List Bundle) (walks : List (List PortNo)) (have : HaveWalks plant walks)
     (fronts : SendFronts) (row : WorldRow) (k : ℕ) (gates : Gates) (all : AllWait plant walks gates) where
-  abbrev sent_at : Step → List Sent
+  abbrev pub sent_at : Step → List Sent
   sent_at at = sends plant bundles row k gates at
 
   split_at : (at : Step) → IsSplit (gate_at gates at) (sent_at at)
@@ -52,7 +53,7 @@ module _ (plant : Plant) (rules : MeetsRules plant) (bundles : List Bundle) (wal
   ]
 
   -- what is sent, and what is left, was in its place
-  sent_wait : (at : Step) → All (λ (one : Sent). IsWaitingAt plant walks at one.parcel) (sent_at at)
+  pub sent_wait : (at : Step) → All (λ (one : Sent). IsWaitingAt plant walks at one.parcel) (sent_at at)
   sent_wait at =
       let Front : Class → Type 0 = λ kind. All (IsWaitingAt plant walks at) (sent_parcels kind (sent_at at)) in
       let front : (kind : Class) → Front kind = λ kind.

@@ -5,3 +5,4 @@ pub mod Loads
 pub mod Cycle
 pub mod Rows
 pub mod Fates
+pub mod Room
