@@ -1,10 +1,9 @@
 -- The rows of a cycle's parcels lie in what is left to them, and are apart.
-use Rattle.std.proofs.Common.{◌≡◌, ℕ, ◌+◌, ◌*◌, ◌≤◌, Bool, true, false, List, [], ◌∷◌, ◌++◌, map, Option, Some, None, option_map, option_and_then, ◌⊎◌, inl, inr, refl, sym, ap, subst, subst₂, arith, length, slice_get, All, AllPairs}
-use Rattle.std.specs.Prelude.{ℤ, pos, ◌+ℤ◌, ◌≤ℤ◌, if◌then◌else◌, fold, ◌==◌}
-use Rattle.std.specs.List.{flat_map}
+use Rattle.std.proofs.Common.{◌≡◌, ℕ, ◌+◌, ◌*◌, ◌≤◌, Bool, true, false, List, [], ◌++◌, map, Option, Some, None, option_map, option_and_then, ◌⊎◌, inl, inr, refl, sym, subst, subst₂, arith, slice_get, All, AllPairs}
+use Rattle.std.specs.Prelude.{ℤ, pos, ◌+ℤ◌, ◌≤ℤ◌, if◌then◌else◌}
 use Rattle.std.specs.Option.{option_map_or}
 use Rattle.std.proofs.lemmas.Int.{ints}
-use Rattle.std.proofs.lemmas.List.Elements.{All-nil, All-append, All-push, All-map, All-weaker}
+use Rattle.std.proofs.lemmas.List.Elements.{All-nil, All-append, All-map, All-weaker}
 use Rattle.std.proofs.lemmas.Option.{same_Some}
 use Rattle.irt_base.specs.Cycle.{cycle_time}
 use Rattle.irt_base.specs.Periods.{period_at}
@@ -12,29 +11,23 @@ use Rattle.irt_base.specs.declared.blocks.Bundle.{Bundle}
 use Rattle.irt_base.specs.declared.blocks.Period.{Period}
 use Rattle.irt_base.specs.declared.blocks.Side.TheVariants.{Tx}
 use Rattle.irt_base.specs.declared.numbers.PortNo.{PortNo}
-use Rattle.irt_base.specs.declared.plants.Class.{Class}
 use Rattle.irt_base.specs.declared.plants.Plant.{Plant}
-use Rattle.irt_base.specs.declared.plants.Traffic.{Traffic}
 use Rattle.plan_rules.specs.Plan.{IsPlan}
 use Rattle.plan_rules.specs.Places.{IsAccepted}
 use Rattle.plan_rules.specs.World.{WorldRow}
-use Rattle.period_gate.specs.declared.parcels.Parcel.{Parcel}
 use Rattle.period_gate.specs.declared.parcels.Sent.{Sent}
-use Rattle.period_gate.specs.declared.queue.TheConstants.{QUEUE_ROOM}
-use Rattle.period_gate.specs.Gate.{Waiting, queue_of}
+use Rattle.period_gate.specs.Gate.{Waiting}
 use Rattle.period_gate.specs.SentList.{sent_of, IsTimed, AreInOrder}
 use Rattle.irt_switch.specs.Begin.{begun_gate, parcel_limit}
 use Rattle.cycle_rows.specs.declared.rows.JournalRow.{JournalRow}
 use Rattle.cycle_rows.specs.Apart.{use_of, IsClearOf, AreClear, AreRowsApart}
 use Rattle.cycle_rows.specs.Parcels.{IsFreeIn, IsParcelRow, AreParcelRows}
 use Rattle.cycle_rows.specs.Rows.{cycle_of}
-use Rattle.parcel_rules.specs.declared.handed.Handed.{Handed}
-use Rattle.parcel_rules.specs.Made.{made_in}
-use Rattle.parcel_rules.specs.Steps.{Step, step_at}
-use Rattle.parcel_rules.specs.Loads.{Gates, gate_at, Loads, Offers, no_offers, offer, offer_by, pass_on, hand_over, offered}
+use Rattle.parcel_rules.specs.Steps.{Step}
+use Rattle.parcel_rules.specs.Loads.{Gates, gate_at, Loads, Offers, offered}
 use Rattle.parcel_rules.specs.Outside.{is_in_step, is_uncut}
 use Rattle.parcel_rules.specs.Cycle.{all_ports, begun_at, sends, loads_at}
-use Rattle.parcel_rules.specs.Rows.{true_time, sent_row, lost_row, sent_rows_at, lost_rows_at, sent_rows, lost_rows, rows_after, rows_in, parcel_rows}
+use Rattle.parcel_rules.specs.Rows.{true_time, sent_row, lost_row, sent_rows_at, lost_rows_at, sent_rows, lost_rows, rows_in, parcel_rows}
 use Rattle.parcel_rules.proofs.Lists.{everywhere, All-flat_map, AllPairs-nil, AllPairs-append, AllPairs-map, AllPairs-weaker, AllPairs-flat_map, Across}
 use Rattle.parcel_rules.proofs.Offered.{either_way, AreAll, offers_all}
 use Rattle.parcel_rules.proofs.Ports.{IsFromOne, IsOther, ports_from_one, ports_differ}

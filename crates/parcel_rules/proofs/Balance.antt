@@ -1,14 +1,11 @@
 -- Weights of parcels that wait, that fly and that have rows: what a cycle keeps of their sum.
-use Rattle.std.proofs.Common.{◌≡◌, ◌⊎◌, ℕ, ◌+◌, Bool, true, false, List, [], ◌∷◌, ◌++◌, map, length, Option, Some, None, refl, sym, ◌∙◌, ap, subst, arith, inl, inr, slice_get, All}
-use Rattle.std.specs.Prelude.{if◌then◌else◌, ◌==◌, ◌&&◌, fold, slice_index_or}
-use Rattle.std.specs.List.{Contains, sum_by, flat_map}
+use Rattle.std.proofs.Common.{◌≡◌, ◌⊎◌, ℕ, ◌+◌, Bool, true, false, List, [], ◌∷◌, ◌++◌, length, Option, Some, None, refl, sym, ◌∙◌, ap, subst, arith, inl, inr, slice_get, All}
+use Rattle.std.specs.Prelude.{if◌then◌else◌, ◌==◌, fold, slice_index_or}
+use Rattle.std.specs.List.{Contains, sum_by}
 use Rattle.std.proofs.lemmas.Bool.{eqb-true, eq-eqb, both_ways}
-use Rattle.std.proofs.lemmas.List.Elements.{All-nil, All-push, All-head, All-tail, All-append, All-map, All-weaker}
-use Rattle.std.proofs.lemmas.List.Sums.{sum_by-cons, sum_by-append, sum_by_push}
-use Rattle.std.proofs.lemmas.Option.{same_Some}
+use Rattle.std.proofs.lemmas.List.Elements.{All-push, All-head, All-tail}
+use Rattle.std.proofs.lemmas.List.Sums.{sum_by-cons, sum_by_push}
 use Rattle.irt_base.specs.Wiring.{peer_of}
-use Rattle.irt_base.specs.declared.blocks.Bundle.{Bundle}
-use Rattle.irt_base.specs.declared.numbers.DevId.{DevId}
 use Rattle.irt_base.specs.declared.numbers.PortNo.{PortNo}
 use Rattle.irt_base.specs.declared.plants.Class.{Class}
 use Rattle.irt_base.specs.declared.plants.Class.TheVariants.{Orange, Green}
@@ -16,29 +13,21 @@ use Rattle.irt_base.specs.declared.plants.Plant.{Plant}
 use Rattle.irt_base.specs.declared.plants.Traffic.{Traffic}
 use Rattle.plant_rules.specs.Meets.{MeetsRules}
 use Rattle.plan_rules.specs.World.{WorldRow}
-use Rattle.plan_rules.proofs.Wires.{mutual_peers}
 use Rattle.period_gate.specs.declared.parcels.Parcel.{Parcel}
 use Rattle.period_gate.specs.declared.parcels.Sent.{Sent}
 use Rattle.period_gate.specs.declared.queue.TheConstants.{QUEUE_ROOM}
 use Rattle.period_gate.specs.Gate.{Waiting, queue_of, with_last}
-use Rattle.period_gate.specs.SentList.{left_of, sent_of, sent_parcels}
-use Rattle.irt_switch.specs.Begin.{begun_gate}
 use Rattle.cycle_rows.specs.declared.rows.JournalRow.{JournalRow}
 use Rattle.parcel_rules.specs.declared.handed.Handed.{Handed}
-use Rattle.parcel_rules.specs.Made.{handed_to, made_in}
+use Rattle.parcel_rules.specs.Made.{handed_to}
 use Rattle.parcel_rules.specs.Steps.{Step, steps_from}
-use Rattle.parcel_rules.specs.Loads.{Gates, gate_at, put, Loads, Offers, no_offers, refused_row, came_row, offer, offer_by, pass_on, hand_over, offered}
-use Rattle.parcel_rules.specs.Outside.{is_uncut}
-use Rattle.parcel_rules.specs.Cycle.{all_ports, sends, after_sending, handed_on, brought_from, brought, after_sendings}
-use Rattle.parcel_rules.specs.Rows.{sent_row, lost_row, sent_rows_at, lost_rows_at, sent_rows, lost_rows, rows_after}
-use Rattle.parcel_rules.proofs.Apart.{IsSending, sends_of}
+use Rattle.parcel_rules.specs.Loads.{Gates, gate_at, put, Offers, refused_row, came_row, offer, offer_by, pass_on, hand_over}
+use Rattle.parcel_rules.specs.Cycle.{all_ports}
+use Rattle.parcel_rules.specs.Rows.{sent_row, lost_row}
 use Rattle.parcel_rules.proofs.Offered.{either_way}
-use Rattle.parcel_rules.proofs.Lists.{everywhere, All-flat_map}
-use Rattle.parcel_rules.proofs.Links.{over, sum_over_links}
 use Rattle.parcel_rules.proofs.Placed.{HaveWalks, walk_step, IsOn, IsWaitingAt, AllWait, sent_on, leaves_device}
-use Rattle.parcel_rules.proofs.Ports.{IsOther, ports_differ}
-use Rattle.parcel_rules.proofs.Queues.{SendFronts, split_gate, sum_classes, all_classes, All-left, All-right}
-use Rattle.parcel_rules.proofs.Sums.{sum_alike, sum_both, sum_none, sum_map, sum_flat_map, sum_changed, is_same, same_step, same_self, other_step}
+use Rattle.parcel_rules.proofs.Ports.{ports_differ}
+use Rattle.parcel_rules.proofs.Sums.{sum_changed, is_same, same_step, same_self, other_step}
 use Rattle.parcel_rules.proofs.Wires.{linked_among}
 
 -- weights that stay the same as parcels are handed over, put into a queue, refused, sent, lost

@@ -1,5 +1,5 @@
 -- On a shortest walk each step leaves one link less to go.
-use Rattle.std.proofs.Common.{◌≡◌, ◌⊎◌, ℕ, zero, suc, ◌+◌, ◌<◌, ◌≤◌, Bool, true, false, cond, List, [], ◌∷◌, length, Option, Some, None, find, refl, sym, ◌∙◌, ap, subst, arith, inl, inr, ◌==◌}
+use Rattle.std.proofs.Common.{◌≡◌, ℕ, suc, ◌+◌, ◌≤◌, Bool, true, false, cond, List, [], ◌∷◌, length, Some, find, refl, sym, ◌∙◌, ap, subst, arith, inl, inr}
 use Rattle.std.specs.Prelude.{if◌then◌else◌}
 use Rattle.std.proofs.lemmas.Bool.{cases_Bool, eqb-true, eq-eqb, cond-true, cond-false}
 use Rattle.std.proofs.lemmas.Option.{same_Some}
@@ -45,10 +45,10 @@ module _ (plant : Plant) where
       let next : DevId = far_of start (peer_of plant start.0 port.0) in
       elim (cases_Bool (leaves_from device (start, port))) [
         | inl here ↦ record {
-            others = port ∷ more;
-            walk = subst (λ (n : ℕ). IsWalk (peer_of plant) n (port ∷ more) end) (eqb-true start.0 device.0 here) (far, leads, rest);
-            short = omega arith;
-          }
+          others = port ∷ more;
+          walk = subst (λ (n : ℕ). IsWalk (peer_of plant) n (port ∷ more) end) (eqb-true start.0 device.0 here) (far, leads, rest);
+          short = omega arith;
+        }
         | inr not_here ↦
             let tail : find (leaves_from device) (Steps next) ≡ Some step =
             sym (cond-false (leaves_from device (start, port)) (Some (start, port)) (find (leaves_from device) (Steps next)) not_here) ∙ is in

@@ -4,7 +4,6 @@ use Rattle.std.proofs.Common.{◌≡◌, ℕ, List, [], ◌∷◌, length, refl,
 use Rattle.std.specs.Prelude.{ℤ, pos, negsuc, Bool, false, ◌==◌, if◌then◌else◌}
 use Rattle.irt_base.specs.declared.blocks.Bundle.{Bundle}
 use Rattle.irt_base.specs.declared.blocks.Period.{Period}
-use Rattle.irt_base.specs.declared.blocks.PortDelay.{PortDelay}
 use Rattle.irt_base.specs.declared.blocks.PortPeriods.{PortPeriods}
 use Rattle.irt_base.specs.declared.numbers.DevId.{DevId}
 use Rattle.irt_base.specs.declared.numbers.PortNo.{PortNo}
@@ -16,10 +15,8 @@ use Rattle.irt_base.specs.declared.plants.Mode.TheVariants as modes
 use Rattle.irt_base.specs.declared.plants.Plant.{Plant}
 use Rattle.irt_base.specs.declared.plants.Traffic.{Traffic}
 use Rattle.plan_rules.specs.World.{WorldRow}
-use Rattle.cycle_rows.specs.declared.rows.JournalRow.{JournalRow}
-use Rattle.cycle_rows.specs.declared.rows.JournalRow.TheVariants.{Sent, Refused, Lost, Came}
+use Rattle.cycle_rows.specs.declared.rows.JournalRow.TheVariants.{Sent, Lost, Came}
 use Rattle.parcel_rules.specs.Rows.{parcel_rows}
-
 
 abbrev device : ℕ → Device
 device count = record { name = []; mode = modes.Absolute; bmin = 1000; bmax = 3000; ports = replicate count (record { tx = 100; rx = 200 }) }

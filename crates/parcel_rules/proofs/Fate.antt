@@ -1,7 +1,7 @@
 -- What is made is accounted for.
-use Rattle.std.proofs.Common.{◌≡◌, ℕ, zero, suc, ◌+◌, ◌<◌, ◌≤◌, Bool, true, false, cond, List, [], ◌∷◌, ◌++◌, refl, sym, ◌∙◌, ap, arith, length}
+use Rattle.std.proofs.Common.{◌≡◌, ℕ, zero, suc, ◌+◌, ◌≤◌, cond, List, [], ◌∷◌, ◌++◌, refl, ◌∙◌, ap, arith, length}
 use Rattle.std.specs.List.{sum_by, range_with_len, flat_map}
-use Rattle.std.proofs.lemmas.List.Sums.{sum_by-append, sum_by_push}
+use Rattle.std.proofs.lemmas.List.Sums.{sum_by_push}
 use Rattle.irt_base.specs.declared.blocks.Bundle.{Bundle}
 use Rattle.irt_base.specs.declared.numbers.PortNo.{PortNo}
 use Rattle.irt_base.specs.declared.plants.Plant.{Plant}
@@ -14,7 +14,6 @@ use Rattle.parcel_rules.specs.Cycle.{all_ports, loads_at}
 use Rattle.parcel_rules.specs.Fates.{is_parcel, is_refused, is_lost, is_come, waiting_count, handed_count, made_before, rows_before}
 use Rattle.parcel_rules.specs.Made.{made_in}
 use Rattle.parcel_rules.specs.Rows.{parcel_rows}
-use Rattle.parcel_rules.specs.Steps.{Step}
 use Rattle.parcel_rules.proofs.Balance.{AreWeights}
 use Rattle.parcel_rules.proofs.Placed.{HaveWalks}
 use Rattle.parcel_rules.proofs.Queues.{SendFronts}

@@ -1,16 +1,14 @@
 -- What a port sends lies in a stretch that is left to parcels.
-use Rattle.std.proofs.Common.{◌≡◌, ℕ, ◌+◌, ◌-◌, ◌*◌, ◌%◌, ◌<◌, ◌≤◌, Bool, true, false, List, [], Option, Some, None, option_map, option_and_then, ◌⊎◌, inl, inr, refl, sym, ◌∙◌, ap, subst, arith, length, slice_get, All, add-one}
-use Rattle.std.specs.Prelude.{ℤ, pos, ◌+ℤ◌, ◌≤ℤ◌, int_le, if◌then◌else◌}
-use Rattle.std.specs.Option.{option_map_or}
+use Rattle.std.proofs.Common.{◌≡◌, ℕ, ◌+◌, ◌-◌, ◌*◌, ◌%◌, ◌<◌, ◌≤◌, true, List, Some, option_map, option_and_then, inl, inr, refl, ◌∙◌, ap, subst, arith, length, slice_get, add-one}
+use Rattle.std.specs.Prelude.{ℤ, pos, ◌+ℤ◌, ◌≤ℤ◌, int_le}
 use Rattle.std.proofs.Math.Nat.{suc-mul}
 use Rattle.std.proofs.lemmas.Bool.{and_parts}
 use Rattle.std.proofs.lemmas.Int.{ints}
-use Rattle.std.proofs.lemmas.Option.{same_Some, slice_get_within, slice_get_cases, get_or_from_slice_get, option_and_then_some}
+use Rattle.std.proofs.lemmas.Option.{slice_get_within, slice_get_cases, get_or_from_slice_get, option_and_then_some}
 use Rattle.irt_base.specs.Cycle.{cycle_time, guard_time}
 use Rattle.irt_base.specs.Periods.{number_of, side_of, port_period, period_at}
 use Rattle.irt_base.specs.Valid.{IsPhasePair, IsPortPeriods, IsPeriodBlock, IsBundle}
 use Rattle.irt_base.specs.declared.limits.TheConstants.{PHASES}
-use Rattle.irt_base.specs.declared.blocks.Assignment.{Assignment}
 use Rattle.irt_base.specs.declared.blocks.Bundle.{Bundle}
 use Rattle.irt_base.specs.declared.blocks.Period.{Period}
 use Rattle.irt_base.specs.declared.blocks.PeriodBlock.{PeriodBlock}
@@ -20,23 +18,19 @@ use Rattle.irt_base.specs.declared.blocks.Side.{Side}
 use Rattle.irt_base.specs.declared.blocks.Side.TheVariants.{Tx, Rx}
 use Rattle.irt_base.specs.declared.plants.Class.{Class}
 use Rattle.irt_base.specs.declared.plants.Class.TheVariants.{Orange, Green}
-use Rattle.irt_base.specs.declared.plants.Device.{Device}
 use Rattle.irt_base.specs.declared.plants.Plant.{Plant}
-use Rattle.plan_rules.specs.Expected.{IsFree}
 use Rattle.plan_rules.specs.Headers.{IsHeader}
 use Rattle.plan_rules.specs.Periods.{IsOrdered, AreOrdered}
 use Rattle.plan_rules.specs.Plan.{IsPlan}
 use Rattle.plan_rules.specs.Places.{IsAccepted, place_of}
-use Rattle.plan_rules.specs.World.{WorldRow, IsInStep, IsWithinWindow}
+use Rattle.plan_rules.specs.World.{WorldRow, IsWithinWindow}
 use Rattle.period_gate.specs.declared.parcels.Sent.{Sent}
-use Rattle.period_gate.specs.Gate.{Waiting, begin_of}
-use Rattle.period_gate.specs.SentList.{sent_of, IsTimed}
-use Rattle.irt_switch.specs.Begin.{begun_gate, parcel_limit}
+use Rattle.period_gate.specs.Gate.{begin_of}
+use Rattle.period_gate.specs.SentList.{IsTimed}
+use Rattle.irt_switch.specs.Begin.{parcel_limit}
 use Rattle.cycle_rows.specs.Parcels.{IsFreeIn}
 use Rattle.parcel_rules.specs.Steps.{Step}
-use Rattle.parcel_rules.specs.Loads.{Gates, gate_at}
 use Rattle.parcel_rules.specs.Outside.{is_within_window, is_in_step}
-use Rattle.parcel_rules.specs.Cycle.{begun_at, sends}
 use Rattle.parcel_rules.specs.Rows.{true_time}
 use Rattle.parcel_rules.proofs.Lists.{each_at}
 

@@ -1,16 +1,14 @@
 -- What the links bring to the ports is what the ports at their other ends send.
-use Rattle.std.proofs.Common.{◌≡◌, ℕ, ◌+◌, Bool, true, false, List, [], ◌∷◌, Option, Some, None, refl, sym, ◌∙◌, ap, subst, arith, All, AllPairs}
+use Rattle.std.proofs.Common.{◌≡◌, ℕ, Bool, true, false, Option, Some, None, refl, sym, ◌∙◌, ap}
 use Rattle.std.specs.Prelude.{if◌then◌else◌}
-use Rattle.std.specs.List.{Contains, sum_by}
-use Rattle.std.proofs.lemmas.Bool.{cases_Bool}
-use Rattle.std.proofs.lemmas.Option.{same_Some}
+use Rattle.std.specs.List.{sum_by}
 use Rattle.irt_base.specs.Wiring.{peer_of}
 use Rattle.irt_base.specs.declared.plants.Plant.{Plant}
 use Rattle.plant_rules.specs.Meets.{MeetsRules}
 use Rattle.plan_rules.proofs.Wires.{mutual_peers}
 use Rattle.parcel_rules.specs.Steps.{Step}
 use Rattle.parcel_rules.specs.Cycle.{all_ports}
-use Rattle.parcel_rules.proofs.Ports.{IsOther, ports_differ}
+use Rattle.parcel_rules.proofs.Ports.{ports_differ}
 use Rattle.parcel_rules.proofs.Lists.{everywhere}
 use Rattle.parcel_rules.proofs.Sums.{sum_alike, sum_none, sum_swap, sum_single, is_same, same_step, same_self}
 use Rattle.parcel_rules.proofs.Wires.{linked_among}

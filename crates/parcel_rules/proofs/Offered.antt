@@ -1,5 +1,5 @@
 -- What holds of all rows that offers write.
-use Rattle.std.proofs.Common.{◌≡◌, ℕ, Bool, true, false, List, [], ◌∷◌, ◌++◌, length, Option, Some, None, slice_get, All}
+use Rattle.std.proofs.Common.{ℕ, Bool, true, false, List, [], ◌∷◌, ◌++◌, length, Option, Some, None, slice_get, All}
 use Rattle.std.specs.Prelude.{if◌then◌else◌, fold, ◌==◌}
 use Rattle.std.proofs.lemmas.List.Elements.{All-nil, All-push}
 use Rattle.irt_base.specs.declared.numbers.PortNo.{PortNo}

@@ -1,7 +1,7 @@
 -- Where parcels are: each is at a device of its walk.
-use Rattle.std.proofs.Common.{◌≡◌, ◌⊎◌, ℕ, zero, suc, ◌+◌, ◌*◌, ◌/◌, ◌%◌, ◌<◌, Bool, true, false, cond, List, [], ◌∷◌, ◌++◌, map, length, get_or, Option, Some, None, find, refl, sym, ◌∙◌, ap, subst, arith, inl, inr, slice_get, All}
+use Rattle.std.proofs.Common.{◌≡◌, ◌⊎◌, ℕ, ◌+◌, ◌*◌, ◌/◌, ◌%◌, ◌<◌, Bool, true, false, List, [], ◌∷◌, map, length, Option, Some, find, refl, sym, ◌∙◌, ap, subst, arith, inl, inr, slice_get, All}
 use Rattle.std.specs.Prelude.{slice_index_or, ◌==◌, if◌then◌else◌}
-use Rattle.std.specs.List.{range_with_len, enumerate_from, flat_map}
+use Rattle.std.specs.List.{range_with_len, enumerate_from}
 use Rattle.std.proofs.lemmas.Bool.{cases_Bool, eqb-true, eq-eqb, cond-true, cond-false}
 use Rattle.std.proofs.lemmas.List.Elements.{All-nil, All-map}
 use Rattle.std.proofs.lemmas.List.FromFn.{length-enumerate_from, get_or-enumerate_from}

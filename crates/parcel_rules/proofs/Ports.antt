@@ -1,5 +1,5 @@
 -- The ports of a plant: each stands once in the list, and they count from 1.
-use Rattle.std.proofs.Common.{◌≡◌, ℕ, ◌<◌, ◌≤◌, List, length, arith, All, AllPairs}
+use Rattle.std.proofs.Common.{◌≡◌, ℕ, ◌<◌, ◌≤◌, length, arith, All, AllPairs}
 use Rattle.std.specs.List.{range_with_len, enumerate_from}
 use Rattle.std.proofs.lemmas.List.Elements.{All-map}
 use Rattle.irt_base.specs.declared.plants.Device.{Device}

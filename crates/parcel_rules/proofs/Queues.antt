@@ -1,22 +1,22 @@
 -- A port's gate before and after a cycle: which parcels it has sent, and which still wait.
-use Rattle.std.proofs.Common.{◌≡◌, ◌⊎◌, ℕ, ◌+◌, Bool, true, false, cond, List, [], ◌∷◌, ◌++◌, map, filter, refl, sym, ◌∙◌, ap, subst, arith, inl, inr, All}
+use Rattle.std.proofs.Common.{◌≡◌, ◌⊎◌, ℕ, ◌+◌, Bool, true, false, List, [], ◌∷◌, ◌++◌, refl, sym, ◌∙◌, ap, subst, arith, inl, inr, All}
 use Rattle.std.specs.Prelude.{if◌then◌else◌}
 use Rattle.std.specs.List.{sum_by}
 use Rattle.std.proofs.lemmas.List.Elements.{All-nil, All-cons, All-head, All-tail}
-use Rattle.std.proofs.lemmas.List.Sums.{sum_by-cons, sum_by-append}
+use Rattle.std.proofs.lemmas.List.Sums.{sum_by-cons}
 use Rattle.irt_base.specs.declared.blocks.Bundle.{Bundle}
 use Rattle.irt_base.specs.declared.blocks.Period.{Period}
 use Rattle.irt_base.specs.declared.plants.Class.{Class}
 use Rattle.irt_base.specs.declared.plants.Class.TheVariants.{Orange, Green}
 use Rattle.period_gate.specs.declared.parcels.Parcel.{Parcel}
 use Rattle.period_gate.specs.declared.parcels.Sent.{Sent}
-use Rattle.period_gate.specs.Gate.{Waiting, queue_of, without_head}
+use Rattle.period_gate.specs.Gate.{Waiting, queue_of, with_last, without_head}
 use Rattle.period_gate.specs.SentList.{left_of, sent_of, is_same_class, sent_parcels}
 use Rattle.irt_switch.specs.Begin.{begun_gate}
 
 -- ---- the period of a cycle changes no queue
 
-same_queue : (kind : Class) (b : Bundle) (tx : Period) (w : Waiting) → queue_of kind (begun_gate b tx w) ≡ queue_of kind w
+pub same_queue : (kind : Class) (b : Bundle) (tx : Period) (w : Waiting) → queue_of kind (begun_gate b tx w) ≡ queue_of kind w
 same_queue Orange b tx w = refl
 same_queue Green b tx w = refl
 
@@ -24,9 +24,14 @@ head_begun : (kind : Class) (b : Bundle) (tx : Period) (w : Waiting) → without
 head_begun Orange b tx w = refl
 head_begun Green b tx w = refl
 
-left_begun : (sent : List Sent) (b : Bundle) (tx : Period) (w : Waiting) → left_of (begun_gate b tx w) sent ≡ begun_gate b tx (left_of w sent)
+pub left_begun : (sent : List Sent) (b : Bundle) (tx : Period) (w : Waiting) → left_of (begun_gate b tx w) sent ≡ begun_gate b tx (left_of w sent)
 left_begun [] b tx w = refl
 left_begun (one ∷ more) b tx w = ap (λ g. left_of g more) (head_begun one.«class» b tx w) ∙ left_begun more b tx (without_head one.«class» w)
+
+pub last_begun : (kind : Class) (parcel : Parcel) (b : Bundle) (tx : Period) (w : Waiting) →
+    with_last kind parcel (begun_gate b tx w) ≡ begun_gate b tx (with_last kind parcel w)
+last_begun Orange parcel b tx w = refl
+last_begun Green parcel b tx w = refl
 
 -- of each class a front of those that wait is sent
 abbrev pub SendFronts : Type 0
@@ -59,13 +64,13 @@ sent_of_classes : (one : Sent) (more : List Sent) →
     AreSentOf one more (one.parcel ∷ sent_parcels Orange more) (sent_parcels Green more) ⊎ AreSentOf one more (sent_parcels Orange more) (one.parcel ∷ sent_parcels Green more)
 sent_of_classes one more = elim (either_class one.«class») [
   | inl is ↦ inl (record {
-      is_orange = parcels_if Orange one more true (ap (is_same_class Orange) is);
-      is_green = parcels_if Green one more false (ap (is_same_class Green) is);
-    })
+    is_orange = parcels_if Orange one more true (ap (is_same_class Orange) is);
+    is_green = parcels_if Green one more false (ap (is_same_class Green) is);
+  })
   | inr is ↦ inr (record {
-      is_orange = parcels_if Orange one more false (ap (is_same_class Orange) is);
-      is_green = parcels_if Green one more true (ap (is_same_class Green) is);
-    })
+    is_orange = parcels_if Orange one more false (ap (is_same_class Orange) is);
+    is_green = parcels_if Green one more true (ap (is_same_class Green) is);
+  })
 ]
 
 pub sum_classes : (weight : Parcel → ℕ) (sent : List Sent) →

@@ -1,9 +1,9 @@
 -- Rows that parcels may still get: a cycle's rows are taken from them.
-use Rattle.std.proofs.Common.{◌≡◌, ℕ, zero, suc, ◌+◌, ◌*◌, ◌/◌, ◌%◌, ◌<◌, ◌≤◌, ◌==◌, Bool, true, false, cond, List, [], ◌∷◌, ◌++◌, map, length, Option, Some, None, refl, sym, ◌∙◌, ap, subst, arith, inl, inr, slice_get, All}
-use Rattle.std.specs.Prelude.{if◌then◌else◌, slice_index_or, fold}
-use Rattle.std.specs.List.{sum_by, range_with_len, enumerate_from, flat_map}
+use Rattle.std.proofs.Common.{◌≡◌, ℕ, suc, ◌+◌, ◌*◌, ◌/◌, ◌%◌, ◌≤◌, ◌==◌, Bool, true, false, List, [], ◌∷◌, ◌++◌, map, length, Option, Some, None, refl, sym, ◌∙◌, ap, subst, arith, inl, inr, slice_get, All}
+use Rattle.std.specs.Prelude.{if◌then◌else◌, slice_index_or}
+use Rattle.std.specs.List.{sum_by, range_with_len, enumerate_from}
 use Rattle.std.specs.Option.{option_map_or}
-use Rattle.std.proofs.lemmas.List.Elements.{All-nil, All-append, All-push, All-map, All-head, All-tail, All-weaker}
+use Rattle.std.proofs.lemmas.List.Elements.{All-nil, All-append, All-map, All-head, All-tail, All-weaker}
 use Rattle.std.proofs.lemmas.List.FromFn.{length-range_with_len}
 use Rattle.std.proofs.lemmas.List.Sums.{sum_by-cons, sum_by-le}
 use Rattle.std.proofs.lemmas.Option.{slice_get_cases}
@@ -22,21 +22,21 @@ use Rattle.cycle_rows.specs.declared.rows.JournalRow.{JournalRow}
 use Rattle.cycle_rows.specs.declared.rows.JournalRow.TheVariants.{Occupy, Deliver, Missed, Sent as SentRow, Refused, Lost, Came}
 use Rattle.parcel_rules.specs.declared.handed.Handed.{Handed}
 use Rattle.parcel_rules.specs.Cycle.{all_ports, sends, after_row, loads_at}
-use Rattle.parcel_rules.specs.Loads.{Gates, Loads, Offers, no_offers, hand_over, offered}
-use Rattle.parcel_rules.specs.Made.{made_in, made_by, made_at_source, handed_to, parcel_of}
+use Rattle.parcel_rules.specs.Loads.{Gates, Loads, Offers, offered}
+use Rattle.parcel_rules.specs.Made.{made_in, made_at_source, handed_to, parcel_of}
 use Rattle.parcel_rules.specs.Outside.{is_uncut}
 use Rattle.parcel_rules.specs.Room.{links_left, links_to_go, rows_to_come, handed_rows, pending, most_rows}
 use Rattle.parcel_rules.specs.Rows.{sent_row, lost_row, sent_rows_at, lost_rows_at, sent_rows, lost_rows, rows_after, rows_in, parcel_rows}
-use Rattle.parcel_rules.specs.Steps.{Step, steps_from, leaves_from, step_at}
-use Rattle.parcel_rules.proofs.Offered.{either_way, AreAll, offers_all}
+use Rattle.parcel_rules.specs.Steps.{Step, steps_from}
+use Rattle.parcel_rules.proofs.Offered.{either_way, offers_all}
 use Rattle.parcel_rules.proofs.Balance.{AreWeights}
-use Rattle.parcel_rules.proofs.Distance.{IsShortest, one_less, left_at_start}
+use Rattle.parcel_rules.proofs.Distance.{one_less, left_at_start}
 use Rattle.parcel_rules.proofs.Lists.{everywhere, All-flat_map}
-use Rattle.parcel_rules.proofs.Placed.{HaveWalks, walk_step, IsOn, IsWaitingAt, AllWait, leaves_device, sent_on, entries_there}
+use Rattle.parcel_rules.proofs.Placed.{HaveWalks, walk_step, IsWaitingAt, AllWait, leaves_device, sent_on, entries_there}
 use Rattle.parcel_rules.proofs.Queues.{SendFronts}
 use Rattle.parcel_rules.proofs.Sending.{sent_wait}
 use Rattle.parcel_rules.proofs.Sums.{sum_map, sum_flat_map}
-use Rattle.parcel_rules.proofs.Whole.{load, placed_at, placed_offers, cycle_weight}
+use Rattle.parcel_rules.proofs.Whole.{placed_at, placed_offers, cycle_weight}
 
 -- each traffic entry has a shortest walk
 abbrev pub HaveBest : Plant → List (List PortNo) → Type 0

@@ -1,13 +1,12 @@
 -- What the weights of a cycle's parcels are after the ports have sent.
-use Rattle.std.proofs.Common.{◌≡◌, ◌⊎◌, ℕ, ◌+◌, Bool, true, false, List, [], ◌∷◌, ◌++◌, map, Option, Some, None, refl, sym, ◌∙◌, ap, subst, arith, inl, inr, All}
+use Rattle.std.proofs.Common.{◌≡◌, ℕ, ◌+◌, Bool, true, false, List, [], ◌∷◌, ◌++◌, map, Option, Some, None, refl, sym, ◌∙◌, ap, subst, arith, inl, inr, All}
 use Rattle.std.specs.Prelude.{if◌then◌else◌}
-use Rattle.std.specs.List.{sum_by, flat_map}
-use Rattle.std.proofs.lemmas.List.Elements.{All-nil, All-head, All-tail, All-map, All-weaker}
-use Rattle.std.proofs.lemmas.List.Sums.{sum_by-cons, sum_by-append}
+use Rattle.std.specs.List.{sum_by}
+use Rattle.std.proofs.lemmas.List.Elements.{All-nil, All-head, All-map, All-weaker}
+use Rattle.std.proofs.lemmas.List.Sums.{sum_by-append}
 use Rattle.std.proofs.lemmas.Option.{same_Some}
 use Rattle.irt_base.specs.Wiring.{peer_of}
 use Rattle.irt_base.specs.declared.blocks.Bundle.{Bundle}
-use Rattle.irt_base.specs.declared.numbers.DevId.{DevId}
 use Rattle.irt_base.specs.declared.numbers.PortNo.{PortNo}
 use Rattle.irt_base.specs.declared.plants.Class.{Class}
 use Rattle.irt_base.specs.declared.plants.Class.TheVariants.{Orange, Green}
@@ -18,8 +17,7 @@ use Rattle.plan_rules.proofs.Wires.{mutual_peers}
 use Rattle.period_gate.specs.declared.parcels.Parcel.{Parcel}
 use Rattle.period_gate.specs.declared.parcels.Sent.{Sent}
 use Rattle.period_gate.specs.Gate.{Waiting, queue_of}
-use Rattle.period_gate.specs.SentList.{left_of, sent_of, sent_parcels}
-use Rattle.irt_switch.specs.Begin.{begun_gate}
+use Rattle.period_gate.specs.SentList.{left_of, sent_parcels}
 use Rattle.cycle_rows.specs.declared.rows.JournalRow.{JournalRow}
 use Rattle.parcel_rules.specs.declared.handed.Handed.{Handed}
 use Rattle.parcel_rules.specs.Made.{handed_to}
@@ -28,14 +26,14 @@ use Rattle.parcel_rules.specs.Loads.{Gates, gate_at}
 use Rattle.parcel_rules.specs.Outside.{is_uncut}
 use Rattle.parcel_rules.specs.Cycle.{all_ports, sends, after_sending, handed_on, brought_from, brought}
 use Rattle.parcel_rules.specs.Rows.{sent_row, lost_row, sent_rows_at, lost_rows_at, sent_rows, lost_rows}
-use Rattle.parcel_rules.proofs.Apart.{IsSending, sends_of}
+use Rattle.parcel_rules.proofs.Apart.{sends_of}
 use Rattle.parcel_rules.proofs.Offered.{either_way}
 use Rattle.parcel_rules.proofs.Balance.{AreWeights, held, held_all}
-use Rattle.parcel_rules.proofs.Lists.{everywhere, All-flat_map}
+use Rattle.parcel_rules.proofs.Lists.{All-flat_map}
 use Rattle.parcel_rules.proofs.Links.{over, sum_over_links}
 use Rattle.parcel_rules.proofs.Placed.{HaveWalks, IsOn, IsWaitingAt, AllWait, sent_on}
 use Rattle.parcel_rules.proofs.Queues.{SendFronts, split_gate, sum_classes, all_classes, All-left, All-right}
-use Rattle.parcel_rules.proofs.Sums.{sum_alike, sum_both, sum_none, sum_map, sum_flat_map}
+use Rattle.parcel_rules.proofs.Sums.{sum_alike, sum_both, sum_map, sum_flat_map}
 
 -- what a port sends is a front of each class, and the rest still waits
 record IsSplit (gate : Waiting) (sent : List Sent) : Type 0 where
@@ -96,8 +94,12 @@ module _ (plant : Plant) (rules : MeetsRules plant) (bundles : List Bundle) (wal
         let left = left_of (gate_at gates at) (sent_at at) in
         let orange = ap (sum_by (waits at)) ((split_at at).queues Orange) in
         let green = ap (sum_by (waits at)) ((split_at at).queues Green) in
-        omega (arith, sum_by-append (waits at) (sent_parcels Orange (sent_at at)) left.orange, sum_by-append (waits at) (sent_parcels Green (sent_at at)) left.green,
-            sum_classes (waits at) (sent_at at))
+        omega (
+          arith,
+          sum_by-append (waits at) (sent_parcels Orange (sent_at at)) left.orange,
+          sum_by-append (waits at) (sent_parcels Green (sent_at at)) left.green,
+          sum_classes (waits at) (sent_at at),
+        )
 
     -- what goes over an uncut link from a port
     abbrev crossing : Step → Step → ℕ

@@ -1,12 +1,11 @@
 -- The weights of parcels from cycle to cycle.
-use Rattle.std.proofs.Common.{◌≡◌, ℕ, zero, suc, ◌+◌, ◌<◌, ◌≤◌, List, [], ◌∷◌, ◌++◌, Option, Some, None, refl, sym, ◌∙◌, ap, subst, arith, length, slice_get, All, inl, inr}
+use Rattle.std.proofs.Common.{◌≡◌, ℕ, zero, suc, ◌+◌, ◌<◌, List, ◌++◌, Option, Some, None, refl, ◌∙◌, ap, arith, length, slice_get, All, inl, inr}
 use Rattle.std.specs.List.{sum_by}
 use Rattle.std.proofs.lemmas.List.Elements.{All-nil, All-append}
 use Rattle.std.proofs.lemmas.List.Sums.{sum_by-append}
 use Rattle.std.proofs.lemmas.Option.{slice_get_cases}
 use Rattle.irt_base.specs.declared.blocks.Bundle.{Bundle}
 use Rattle.irt_base.specs.declared.numbers.PortNo.{PortNo}
-use Rattle.irt_base.specs.declared.plants.Class.{Class}
 use Rattle.irt_base.specs.declared.plants.Class.TheVariants.{Orange, Green}
 use Rattle.irt_base.specs.declared.plants.Plant.{Plant}
 use Rattle.plant_rules.specs.Meets.{MeetsRules}
@@ -15,8 +14,8 @@ use Rattle.period_gate.specs.declared.parcels.Parcel.{Parcel}
 use Rattle.period_gate.specs.Gate.{queue_of, nothing_waiting}
 use Rattle.cycle_rows.specs.declared.rows.JournalRow.{JournalRow}
 use Rattle.parcel_rules.specs.declared.handed.Handed.{Handed}
-use Rattle.parcel_rules.specs.Cycle.{after_sendings, after_row, loads_at, brought, after_sending}
-use Rattle.parcel_rules.specs.Loads.{Gates, Loads, no_loads, Offers, no_offers, offered}
+use Rattle.parcel_rules.specs.Cycle.{after_sendings, after_row, loads_at}
+use Rattle.parcel_rules.specs.Loads.{Loads, Offers, no_offers, offered}
 use Rattle.parcel_rules.specs.Made.{made_in}
 use Rattle.parcel_rules.specs.Rows.{rows_after, rows_in, parcel_rows, sent_rows, lost_rows}
 use Rattle.parcel_rules.specs.Steps.{Step}

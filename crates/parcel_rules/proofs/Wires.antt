@@ -1,15 +1,13 @@
 -- The ports of a plant that meets its rules: linked ports are among them, and each is the other's peer.
-use Rattle.std.proofs.Common.{◌≡◌, ◌⊎◌, ℕ, zero, suc, ◌+◌, ◌-◌, ◌<◌, ◌≤◌, Bool, true, false, List, [], ◌∷◌, ◌++◌, map, length, get_or, Option, Some, None, refl, sym, ◌∙◌, ap, ap₂, subst, arith, inl, inr, slice_get, leb}
+use Rattle.std.proofs.Common.{◌≡◌, ℕ, zero, suc, ◌+◌, ◌-◌, ◌<◌, ◌≤◌, true, false, List, [], ◌∷◌, map, length, Some, sym, ◌∙◌, ap, ap₂, subst, arith, inl, inr, slice_get, leb}
 use Rattle.std.specs.Option.{option_map_or}
 use Rattle.std.specs.List.{Contains, flat_map, range_with_len, enumerate_from}
 use Rattle.std.proofs.lemmas.Bool.{and_parts, leb-true}
-use Rattle.std.proofs.lemmas.List.{length-map, get_or-map}
-use Rattle.std.proofs.lemmas.List.Elements.{Contains-append_left, Contains-append_right, Contains-get_or}
+use Rattle.std.proofs.lemmas.List.Elements.{Contains-append_left, Contains-append_right}
 use Rattle.std.proofs.lemmas.List.FromFn.{length-range_with_len, get_or-range_with_len, length-enumerate_from, get_or-enumerate_from}
 use Rattle.std.proofs.lemmas.Option.{get_or_from_slice_get, slice_get_within, slice_get_cases}
 use Rattle.irt_base.specs.Wiring.{begins_at, ends_at, touches, link_at, far_end, peer_of}
 use Rattle.irt_base.specs.declared.plants.Device.{Device}
-use Rattle.irt_base.specs.declared.plants.Link.{Link}
 use Rattle.irt_base.specs.declared.plants.Plant.{Plant}
 use Rattle.plant_rules.specs.Words.{is_within, has_port}
 use Rattle.plant_rules.specs.Meets.{HasPort, IsLink, MeetsRules}
@@ -40,9 +38,11 @@ in_range a n k low high =
 
 in_enumeration : {X : Type 0} (xs : List X) (k : ℕ) (x : X) → slice_get xs k ≡ Some x → Contains (enumerate_from 0 xs) (k, x)
 in_enumeration xs k x is =
-    let below = slice_get_within xs k x is in
-    (k, omega (arith, length-enumerate_from 0 xs),
-        get_or-enumerate_from 0 xs k (k, x) below ∙ (λ i. ((let e : 0 + k ≡ k = omega arith in e) i, get_or_from_slice_get xs k x x is i)))
+    let below = slice_get_within xs k x is in (
+      k,
+      omega (arith, length-enumerate_from 0 xs),
+      get_or-enumerate_from 0 xs k (k, x) below ∙ (λ i. ((let e : 0 + k ≡ k = omega arith in e) i, get_or_from_slice_get xs k x x is i)),
+    )
 
 -- ---- ports
 

@@ -18,7 +18,7 @@ use Rattle.period_gate.specs.SentList.{sent_of, left_of}
 use Rattle.irt_switch.specs.Begin.{begun_gate}
 use Rattle.parcel_rules.specs.declared.handed.Handed.{Handed}
 use Rattle.parcel_rules.specs.Made.{handed_to}
-use Rattle.parcel_rules.specs.Loads.{Gates, gate_at, Loads, no_loads, Offers, offered}
+use Rattle.parcel_rules.specs.Loads.{Gates, gate_at, Loads, no_loads, offered}
 use Rattle.parcel_rules.specs.Outside.{is_in_step, is_uncut}
 use Rattle.parcel_rules.specs.Steps.{Step}
 

@@ -11,7 +11,7 @@ use Rattle.cycle_rows.specs.declared.rows.JournalRow.{JournalRow}
 use Rattle.cycle_rows.specs.declared.rows.JournalRow.TheVariants.{Refused, Lost, Came}
 use Rattle.parcel_rules.specs.declared.handed.Handed.{Handed}
 use Rattle.parcel_rules.specs.Cycle.{all_ports, loads_at}
-use Rattle.parcel_rules.specs.Loads.{Gates, gate_at, Loads}
+use Rattle.parcel_rules.specs.Loads.{Gates, gate_at}
 use Rattle.parcel_rules.specs.Made.{made_in}
 use Rattle.parcel_rules.specs.Rows.{parcel_rows}
 use Rattle.parcel_rules.specs.Steps.{Step}

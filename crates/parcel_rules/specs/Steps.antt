@@ -1,5 +1,5 @@
 -- The steps of a walk: the devices that it leaves, each with the port by which it does. So a step is a link direction.
-use Rattle.std.specs.Prelude.{ℕ, ◌==◌, Bool, List, [], ◌∷◌, Option, find}
+use Rattle.std.specs.Prelude.{◌==◌, Bool, List, [], ◌∷◌, Option, find}
 use Rattle.irt_base.specs.Wiring.{peer_of}
 use Rattle.irt_base.specs.declared.numbers.DevId.{DevId}
 use Rattle.irt_base.specs.declared.numbers.PortNo.{PortNo}
