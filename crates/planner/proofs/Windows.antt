@@ -69,9 +69,6 @@ offset_is plan device e is = ap (option_map (λ (x : Entry). x.send_offset)) is
 
 module _ (laws : FitLaws) (plant : Plant) (parents : Parents) (demand : Demand) (way : FrameWay) (known : IsFrameWay plant parents demand way)
     (ratio phase : ℕ) (plan : FramePlan) (shape : HasShape plant parents demand ratio phase plan) (offsets : List ℕ) (has : HasOffsets plant plan offsets) where
-  base : FramePlan
-  base = base_of way
-
   pub stands_in : (device : ℕ) (e : Entry) → entry_of plan device ≡ Some e → entry_at (alone plant plan) device plan.frame.0 ≡ Some e
   stands_in device e is = entry_stands plant plan.entries device plan.frame.0 e is (ap (λ (f : FrameId). f.0) ((shape.each device e is).frame ∙ sym shape.frame))
 

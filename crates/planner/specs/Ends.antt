@@ -10,7 +10,8 @@ use Rattle.plan_blocks.specs.Ends.{IsDueEnd}
 use Rattle.frame_ways.specs.declared.frame_way.Arrival.{Arrival}
 
 -- the end of a sending of the frame, in a phase in which it is due
-pub record IsSendingEnd (limits : Limits) (rate : Rate) (layout : Layout) (offsets : List ℕ) (device port k end : ℕ) : Type 0 where
+pub record IsSendingEnd (limits : Limits) (rate : Rate) (layout : Layout) (offsets : List ℕ)
+    (device port k end : ℕ) : Type 0 where
   pub sending : Sending
   pub has : Contains layout.sendings sending
   pub is : IsDueEnd rate sending.device.0 sending.port.0

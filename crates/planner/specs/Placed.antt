@@ -42,7 +42,8 @@ pub record IsPlacedPlan (way : FrameWay) (rate : Rate) (offsets : List ℕ) (pla
   pub count : length plan.entries ≡ length way.entries
   pub kept : List ℕ
   pub are : AreAnchorOffsets way.layout.anchors offsets kept
-  pub each : (device : ℕ) → entry_of plan device ≡ placed_entry rate (offset_at kept device) (entry_of (base_of way) device)
+  pub each : (device : ℕ) → entry_of plan device ≡
+      placed_entry rate (offset_at kept device) (entry_of (base_of way) device)
 
 -- when the frame may be on the link, by the clock of its anchor
 abbrev pub slot_in : Entry → SendWindow → Slot

@@ -44,7 +44,8 @@ pub record IsEmpty (placed : Placed) : Type 0 where
   pub rx : placed.rx ≡ replicate TABLES 0
 
 -- a frame is added, with its slots and ends
-pub record IsRecorded (limits : Limits) (way : FrameWay) (rate : Rate) (offsets : List ℕ) (old new : Placed) : Type 0 where
+pub record IsRecorded (limits : Limits) (way : FrameWay) (rate : Rate) (offsets : List ℕ)
+    (old new : Placed) : Type 0 where
   pub plan : FramePlan
   pub is : IsPlacedPlan way rate offsets plan
   pub plans : new.plans ≡ old.plans ++ plan ∷ []
@@ -95,13 +96,14 @@ pub record IsFitAdded (plant : Plant) (parents : Parents) (demand : Demand) (old
 abbrev pub IsStep : Plant → Parents → Demand → Placed → Placed → Result (Unit {0}) PlanFault → Type 0
 IsStep plant parents demand old new (Ok _) = IsFitAdded plant parents demand old new
 IsStep plant parents demand old new (Err faults.NoMemory) = ⊤
-IsStep plant parents demand old new (Err (faults.Overrun frame)) = (frame ≡ demand.frame) × HasNoFit plant parents old.plans demand
+IsStep plant parents demand old new (Err (faults.Overrun frame)) =
+    (frame ≡ demand.frame) × HasNoFit plant parents old.plans demand
 
 -- the ways of all demands
 pub record AreWays (plant : Plant) (routes : RouteTables) (ways : List FrameWay) : Type 0 where
   pub count : length ways ≡ length plant.demands
-  pub each : (index : ℕ) (demand : Demand) (way : FrameWay) → IsDemandAt plant index demand → slice_get ways index ≡ Some way →
-      IsFrameWay plant (parents_of routes index) demand way
+  pub each : (index : ℕ) (demand : Demand) (way : FrameWay) → IsDemandAt plant index demand →
+      slice_get ways index ≡ Some way → IsFrameWay plant (parents_of routes index) demand way
 
 -- all demands of an order are placed
 pub record AreAllPlaced (plant : Plant) (routes : RouteTables) (order : List ℕ) (placed : Placed) : Type 0 where

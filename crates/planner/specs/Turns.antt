@@ -28,7 +28,8 @@ key_of t = record { far = record { 0 = t.hops }; long = record { 0 = t.length };
 
 -- by more hops, then by more bytes, then by a lesser FrameID
 abbrev pub key_cmp : TurnKey → TurnKey → Ordering
-key_cmp a b = ordering_then (nat_cmp b.far.0 a.far.0) (ordering_then (nat_cmp b.long.0 a.long.0) (nat_cmp a.frame b.frame))
+key_cmp a b = ordering_then (nat_cmp b.far.0 a.far.0)
+    (ordering_then (nat_cmp b.long.0 a.long.0) (nat_cmp a.frame b.frame))
 
 -- the demands' places
 abbrev pub order_of : List Turn → List ℕ

@@ -55,7 +55,7 @@ fn placed_entries(
     requires { length entries.now ≤ MAX_DEVICES }
     ensures { IfOk result (ArePlacedEntries rate offsets.now entries.now) }
 {
-    let mut placed = Items::new(alloc);
+    let mut placed = Items::with_capacity(alloc, entries.len())?;
     for (device, entry) in entries.iter().enumerate() {
         placed.push(placed_entry(*entry, rate, offsets[device]))?;
     }
