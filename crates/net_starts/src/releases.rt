@@ -12,13 +12,14 @@ use event_queue::queue::Queue;
 use irt_base::numbers::PortNo;
 use irt_switch::{Outgoing, Switch};
 
-/// Releases all that a device still has to in the cycle, and puts the starts into a queue. It takes no memory. `begin` is
-/// an event at the device at the time at which the device's cycle begins, in true ns.
+/// Releases all that a device still has to in the cycle, and puts the starts into a queue. It takes no memory. `begin`
+/// is an event at the device at the time at which the device's cycle begins, in true ns.
 pub fn push_released(queue: &mut Queue, switch: &mut Switch, begin: Event)
     requires begin { IsSmallTime 60 begin.at }
     requires times { All (λ (o : Outgoing). IsSmallTime 60 o.at) switch.old.left }
     requires room { length (starts_from begin.at begin.device.0 switch.old.left) ≤ queue.old.room }
-    ensures put { IsPermutation (starts_from begin.at begin.device.0 switch.old.left ++ queue.old.events) queue.new.events }
+    ensures put { IsPermutation
+        (starts_from begin.at begin.device.0 switch.old.left ++ queue.old.events) queue.new.events }
     ensures room { queue.old.room ≤ queue.new.room + length (starts_from begin.at begin.device.0 switch.old.left) }
     ensures released { switch.new ≡ record switch.old { left = [] } }
 {

@@ -16,7 +16,8 @@ const PORTS: [u8; 7] = [1, 2, 3, 4, 5, 6, 7];
 /// does not matter. It takes no memory.
 pub fn push_starts(queue: &mut Queue, start: Event, ports: PortSet)
     requires { length (starts_of start.at start.device.0 start.frame.0 ports) ≤ queue.old.room }
-    ensures put { IsPermutation (starts_of start.at start.device.0 start.frame.0 ports ++ queue.old.events) queue.new.events }
+    ensures put { IsPermutation
+        (starts_of start.at start.device.0 start.frame.0 ports ++ queue.old.events) queue.new.events }
     ensures room { queue.old.room ≤ queue.new.room + length (starts_of start.at start.device.0 start.frame.0 ports) }
 {
     push_ports(queue, start, ports, &PORTS);
