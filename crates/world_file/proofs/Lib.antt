@@ -8,6 +8,7 @@ pub mod NumberTaken
 pub mod NumberText
 pub mod OneAnswer
 pub mod PlanBounds
+pub mod RightOrWrong
 pub mod Values
 pub mod WholeFile
 pub mod WholeLine

@@ -21,7 +21,7 @@ pub record IsReadTo (plant : Plant) (bundles : List Bundle) (bytes : List ℕ) (
   pub before : All (IsRowOf plant bundles) rows
   pub count : length rows ≡ cycle
 
-refusal_at : (plant : Plant) (bundles : List Bundle) (bytes : List ℕ) (rows : List Row) (rest : List ℕ) (cycle cycles : ℕ) (e : WorldFault) → IsReadTo plant bundles bytes rows rest cycle →
+pub refusal_at : (plant : Plant) (bundles : List Bundle) (bytes : List ℕ) (rows : List Row) (rest : List ℕ) (cycle cycles : ℕ) (e : WorldFault) → IsReadTo plant bundles bytes rows rest cycle →
     cycle < cycles → IsLineRefusal plant (forwardings plant bundles) rest (cycle + 1) e → IsRefusal plant bundles cycles bytes e
 refusal_at plant bundles bytes rows rest cycle cycles NoMemory read within refusal = tt
 refusal_at plant bundles bytes rows rest cycle cycles (Refused line place) read within refusal = record {

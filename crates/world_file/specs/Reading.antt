@@ -61,7 +61,8 @@ negative_read x = if x.0 == 0 then None else Some (record { negative = true; siz
 
 abbrev pub integer_read : List ℕ → Option (Number × List ℕ)
 integer_read [] = None
-integer_read (b ∷ bs) = if b == 45 then natural_read bs >>= negative_read else (natural_read (b ∷ bs) >>= λ x. Some (plain x))
+integer_read (b ∷ bs) =
+    if b == 45 then natural_read bs >>= negative_read else (natural_read (b ∷ bs) >>= λ x. Some (plain x))
 
 -- a number with a space before it
 unfoldable pub number_read : List ℕ → Option (Number × List ℕ)

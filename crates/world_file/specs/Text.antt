@@ -31,7 +31,8 @@ pub record Line : Type 0 where
 
 -- A line, with the LF that ends it: `E 0 -1000 B 2000 C 3`.
 abbrev pub line_text : Line → List ℕ
-line_text l = 69 ∷ (numbers_text l.errors ++ 32 ∷ 66 ∷ (numbers_text l.bridges ++ 32 ∷ 67 ∷ (numbers_text l.cuts ++ 10 ∷ [])))
+line_text l =
+    69 ∷ (numbers_text l.errors ++ 32 ∷ 66 ∷ (numbers_text l.bridges ++ 32 ∷ 67 ∷ (numbers_text l.cuts ++ 10 ∷ [])))
 
 -- the numbers of a row
 abbrev pub line_of : Row → Line
@@ -46,7 +47,8 @@ abbrev pub world_text : World → List ℕ
 world_text world = rows_text world.rows
 
 -- The bytes are the file of a world of so many cycles, which fits a plan.
-pub record IsWorldFile (plant : Plant) (bundles : List Bundle) (cycles : ℕ) (bytes : List ℕ) (world : World) : Type 0 where
+pub record IsWorldFile (plant : Plant) (bundles : List Bundle) (cycles : ℕ) (bytes : List ℕ) (world : World) : Type 0
+    where
   pub count : length world.rows ≡ cycles
   pub fits : Fits plant bundles world
   pub text : bytes ≡ world_text world

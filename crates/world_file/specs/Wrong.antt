@@ -77,7 +77,8 @@ IsWrongLine plant fs bytes place =
 
 -- The first line of a file that is wrong, from 1, and its first wrong place. All lines before it are rows in range.
 -- It is one of those wanted, or one too many.
-pub record IsFirstWrong (plant : Plant) (bundles : List Bundle) (cycles : ℕ) (bytes : List ℕ) (line place : ℕ) : Type 0 where
+pub record IsFirstWrong (plant : Plant) (bundles : List Bundle) (cycles : ℕ) (bytes : List ℕ) (line place : ℕ) : Type 0
+    where
   pub rows : List Row
   pub rest : List ℕ
   pub at : line ≡ length rows + 1
