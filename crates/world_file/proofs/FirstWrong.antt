@@ -1,17 +1,17 @@
 -- The first wrong place of a line, from the values before it.
-use Rattle.std.proofs.Common.{◌≡◌, ◌<◌, ◌≤◌, ◌+◌, ◌⊎◌, ℕ, zero, suc, ℤ, pos, ◌≤ℤ◌, ◌<ℤ◌, List, [], ◌∷◌, ◌++◌, map, length, take, get_or, slice_get, Option, Some, All, refl, sym, ◌∙◌, ap, subst, arith, length-append, inl, inr}
+use Rattle.std.proofs.Common.{◌≡◌, ◌<◌, ◌≤◌, ◌+◌, ℕ, zero, suc, ℤ, pos, ◌≤ℤ◌, ◌<ℤ◌, List, [], ◌∷◌, ◌++◌, map, length, take, get_or, slice_get, Some, All, refl, sym, ◌∙◌, ap, subst, arith, length-append, inl, inr}
 use Rattle.std.specs.List.{AllByRecursion}
 use Rattle.std.specs.List.Sorted.{IsStrictlyIncreasing}
 use Rattle.std.proofs.lemmas.Bool.{cases_lt}
 use Rattle.std.proofs.lemmas.Int.{ints}
 use Rattle.std.proofs.lemmas.List.{length-map, take-append-le, take_at}
-use Rattle.std.proofs.lemmas.Option.{none-some, same_Some, slice_get_within}
+use Rattle.std.proofs.lemmas.Option.{none-some, same_Some}
 use Rattle.irt_base.specs.Valid.{IsWithin}
 use Rattle.irt_base.specs.declared.plants.Plant.{Plant}
 use Rattle.irt_world.specs.Rows.{IsError}
 use Rattle.irt_world.specs.declared.forwardings.Forwarding.{Forwarding}
 use Rattle.world_file.specs.Text.{Line}
-use Rattle.world_file.specs.Wrong.{Ascends, IsDelay, IsFirstWrongPlace, IsLinkNumber, IsWrongDelay, IsWrongError, IsWrongLink, IsWrongPlace}
+use Rattle.world_file.specs.Wrong.{Ascends, IsDelay, IsFirstWrongPlace, IsLinkNumber, IsWrongDelay, IsWrongLink, IsWrongPlace}
 use Rattle.world_file.proofs.Kept.{AreDelays, AreLinksFrom, least_after}
 
 pub at_end : {A : Type 0} (front : List A) (x : A) (more : List A) → slice_get (front ++ x ∷ more) (length front) ≡ Some x

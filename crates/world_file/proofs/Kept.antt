@@ -1,5 +1,5 @@
 -- What a draft keeps of a line's values.
-use Rattle.std.proofs.Common.{◌≡◌, ◌<◌, ◌≤◌, ◌+◌, ◌⊎◌, ℕ, zero, suc, ℤ, pos, ◌≤ℤ◌, Bool, true, false, List, [], ◌∷◌, ◌++◌, map, length, slice_get, Option, Some, refl, sym, ◌∙◌, ap, subst, arith, append_assoc, inl, inr}
+use Rattle.std.proofs.Common.{◌≡◌, ◌<◌, ◌≤◌, ◌+◌, ◌⊎◌, ℕ, ℤ, pos, ◌≤ℤ◌, true, false, List, [], ◌∷◌, ◌++◌, map, length, slice_get, Some, refl, sym, ◌∙◌, ap, subst, arith, append_assoc, inl, inr}
 use Rattle.std.specs.List.{AllByRecursion}
 use Rattle.std.proofs.lemmas.Bool.{cases_Bool}
 use Rattle.std.proofs.lemmas.List.{append-nil}
@@ -9,14 +9,13 @@ use Rattle.irt_base.specs.declared.plants.Plant.{Plant}
 use Rattle.irt_world.specs.Rows.{IsError}
 use Rattle.irt_world.specs.declared.forwardings.Forwarding.{Forwarding}
 use Rattle.world_file.specs.Reading.{is_delay, is_error, is_link, push_delay, push_error, push_link, signed_of, stopped, with_delay, with_error, with_link}
-use Rattle.world_file.specs.Text.{Line}
 use Rattle.world_file.specs.Wrong.{IsDelay, IsLinkNumber}
 use Rattle.world_file.specs.declared.draft.Draft.{Draft}
 use Rattle.world_file.specs.declared.number.Number.{Number}
 use Rattle.world_file.specs.declared.number.TheConstants.{FAR}
 use Rattle.world_file.proofs.LineText.{each_with, links_with}
 use Rattle.world_file.proofs.NumberText.{near}
-use Rattle.world_file.proofs.Values.{IsPlain, right_delay, right_error, right_link, wrong_delay, wrong_error, wrong_link}
+use Rattle.world_file.proofs.Values.{right_delay, right_error, right_link, wrong_delay, wrong_error, wrong_link}
 
 -- Once wrong, a draft stays as it is.
 pub each_stays : {X : Type 0} (step : Draft → X → Number → Draft) → ((d : Draft) (x : X) (m : Number) → d.is_wrong ≡ true → step d x m ≡ d) →
@@ -97,18 +96,18 @@ errors_kept (x ∷ xs) (z ∷ zs) d fine count =
           let step : with_error d (near z) ≡ push_error d (near z) = rw (fine, right) refl in
           elim (errors_kept xs zs (push_error d (near z)) fine (omega arith)) [
             | inl all ↦ inl (record {
-                right = (in_range, all.right);
-                draft = ap (each_with (λ e _ m. with_error e m) xs zs) step ∙ all.draft ∙ one_more_error d (near z) z zs same;
-              })
+              right = (in_range, all.right);
+              draft = ap (each_with (λ e _ m. with_error e m) xs zs) step ∙ all.draft ∙ one_more_error d (near z) z zs same;
+            })
             | inr some ↦ inr (record {
-                before = z ∷ some.before;
-                z = some.z;
-                after = some.after;
-                are = ap (λ ys. z ∷ ys) some.are;
-                right = (in_range, some.right);
-                wrong = some.wrong;
-                draft = ap (each_with (λ e _ m. with_error e m) xs zs) step ∙ some.draft ∙ ap stopped (one_more_error d (near z) z some.before same);
-              })
+              before = z ∷ some.before;
+              z = some.z;
+              after = some.after;
+              are = ap (λ ys. z ∷ ys) some.are;
+              right = (in_range, some.right);
+              wrong = some.wrong;
+              draft = ap (each_with (λ e _ m. with_error e m) xs zs) step ∙ some.draft ∙ ap stopped (one_more_error d (near z) z some.before same);
+            })
           ]
       | inr wrong ↦
           let step : with_error d (near z) ≡ stopped d = rw (fine, wrong) refl in
@@ -166,22 +165,22 @@ delays_kept (x ∷ xs) (z ∷ zs) d fine count bounds =
           let step : with_delay d x (near z) ≡ push_delay d (near z) = rw (fine, right) refl in
           elim (delays_kept xs zs (push_delay d (near z)) fine (omega arith) bounds.1) [
             | inl all ↦ inl (record {
-                delays = p.n ∷ all.delays;
-                are = ap (λ y. y ∷ zs) p.is ∙ ap (λ ys. pos p.n ∷ ys) all.are;
-                right = (in_range, all.right);
-                draft = ap (each_with with_delay xs zs) step ∙ all.draft ∙ one_more_delay d (near z) p.n all.delays p.size;
-              })
+              delays = p.n ∷ all.delays;
+              are = ap (λ y. y ∷ zs) p.is ∙ ap (λ ys. pos p.n ∷ ys) all.are;
+              right = (in_range, all.right);
+              draft = ap (each_with with_delay xs zs) step ∙ all.draft ∙ one_more_delay d (near z) p.n all.delays p.size;
+            })
             | inr some ↦ inr (record {
-                before = p.n ∷ some.before;
-                f = some.f;
-                z = some.z;
-                after = some.after;
-                are = ap (λ y. y ∷ zs) p.is ∙ ap (λ ys. pos p.n ∷ ys) some.are;
-                right = (in_range, some.right);
-                forwarding = some.forwarding;
-                wrong = some.wrong;
-                draft = ap (each_with with_delay xs zs) step ∙ some.draft ∙ ap stopped (one_more_delay d (near z) p.n some.before p.size);
-              })
+              before = p.n ∷ some.before;
+              f = some.f;
+              z = some.z;
+              after = some.after;
+              are = ap (λ y. y ∷ zs) p.is ∙ ap (λ ys. pos p.n ∷ ys) some.are;
+              right = (in_range, some.right);
+              forwarding = some.forwarding;
+              wrong = some.wrong;
+              draft = ap (each_with with_delay xs zs) step ∙ some.draft ∙ ap stopped (one_more_delay d (near z) p.n some.before p.size);
+            })
           ]
       | inr wrong ↦
           let step : with_delay d x (near z) ≡ stopped d = rw (fine, wrong) refl in
@@ -236,20 +235,20 @@ links_kept plant (z ∷ zs) d fine bound =
           let step : with_link (length plant.links) d (near z) ≡ push_link d (near z) = rw (fine, right) refl in
           elim (links_kept plant zs (push_link d (near z)) fine bound) [
             | inl all ↦ inl (record {
-                cuts = p.n ∷ all.cuts;
-                are = ap (λ y. y ∷ zs) p.is ∙ ap (λ ys. pos p.n ∷ ys) all.are;
-                right = (low, high, subst (λ k. AreLinksFrom (k + 1) (length plant.links) all.cuts) p.size all.right);
-                draft = ap (links_with (length plant.links) zs) step ∙ all.draft ∙ one_more_link d (near z) p.n all.cuts p.size;
-              })
+              cuts = p.n ∷ all.cuts;
+              are = ap (λ y. y ∷ zs) p.is ∙ ap (λ ys. pos p.n ∷ ys) all.are;
+              right = (low, high, subst (λ k. AreLinksFrom (k + 1) (length plant.links) all.cuts) p.size all.right);
+              draft = ap (links_with (length plant.links) zs) step ∙ all.draft ∙ one_more_link d (near z) p.n all.cuts p.size;
+            })
             | inr some ↦ inr (record {
-                before = p.n ∷ some.before;
-                z = some.z;
-                after = some.after;
-                are = ap (λ y. y ∷ zs) p.is ∙ ap (λ ys. pos p.n ∷ ys) some.are;
-                right = (low, high, subst (λ k. AreLinksFrom (k + 1) (length plant.links) some.before) p.size some.right);
-                wrong = subst (λ k. ¬ (IsLinkNumber plant some.z × (pos (least_after (k + 1) some.before) ≤ℤ some.z))) p.size some.wrong;
-                draft = ap (links_with (length plant.links) zs) step ∙ some.draft ∙ ap stopped (one_more_link d (near z) p.n some.before p.size);
-              })
+              before = p.n ∷ some.before;
+              z = some.z;
+              after = some.after;
+              are = ap (λ y. y ∷ zs) p.is ∙ ap (λ ys. pos p.n ∷ ys) some.are;
+              right = (low, high, subst (λ k. AreLinksFrom (k + 1) (length plant.links) some.before) p.size some.right);
+              wrong = subst (λ k. ¬ (IsLinkNumber plant some.z × (pos (least_after (k + 1) some.before) ≤ℤ some.z))) p.size some.wrong;
+              draft = ap (links_with (length plant.links) zs) step ∙ some.draft ∙ ap stopped (one_more_link d (near z) p.n some.before p.size);
+            })
           ]
       | inr wrong ↦
           let step : with_link (length plant.links) d (near z) ≡ stopped d = rw (fine, wrong) refl in

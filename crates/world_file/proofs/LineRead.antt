@@ -1,5 +1,5 @@
 -- What is answered for the line that the bytes begin with.
-use Rattle.std.proofs.Common.{◌≡◌, ◌<◌, ◌≤◌, ◌+◌, ◌^◌, ℕ, Bool, true, false, if◌then◌else◌, List, [], ◌∷◌, ◌++◌, length, Option, Some, None, Result, Ok, Err, refl, sym, ◌∙◌, ap, subst, arith, inl, inr}
+use Rattle.std.proofs.Common.{◌≡◌, ◌<◌, ◌≤◌, ◌+◌, ◌^◌, ℕ, Bool, true, false, List, ◌++◌, length, Some, None, Result, Ok, Err, refl, sym, ◌∙◌, ap, subst, arith, inl, inr}
 use Rattle.std.specs.List.{AllByRecursion}
 use Rattle.std.specs.Prelude.{IfErr}
 use Rattle.std.proofs.lemmas.Option.{none-some}
@@ -11,7 +11,7 @@ use Rattle.irt_world.specs.declared.forwardings.Forwarding.{Forwarding}
 use Rattle.irt_world.specs.declared.rows.Row.{Row}
 use Rattle.world_file.specs.Reading.{empty_draft, line_read, next_place, verdict_of}
 use Rattle.world_file.specs.Text.{Line, line_of, line_text}
-use Rattle.world_file.specs.Wrong.{BeginsWith, HasCounts, IsLineRefusal, IsWrongLine}
+use Rattle.world_file.specs.Wrong.{HasCounts, IsLineRefusal, IsWrongLine}
 use Rattle.world_file.specs.declared.draft.Draft.{Draft}
 use Rattle.world_file.specs.declared.fault.WorldFault.{WorldFault}
 use Rattle.world_file.specs.declared.fault.WorldFault.TheVariants.{Refused}
@@ -20,10 +20,13 @@ use Rattle.world_file.proofs.WholeLine.{line_again, line_taken, line_with}
 
 -- where nothing is read, no line stands
 pub no_line : (plant : Plant) (fs : List Forwarding) (d : Draft) (bytes : List ℕ) → line_read plant.devices fs (length plant.links) d bytes ≡ None → IsWrongLine plant fs bytes 0
-no_line plant fs d bytes none = inl (refl, λ l begins.
-    none-some (line_with plant.devices fs (length plant.links) l d, begins.rest)
-    (sym none ∙ ap (line_read plant.devices fs (length plant.links) d) begins.text
-     ∙ line_again plant.devices fs (length plant.links) l d begins.rest (record { errors = begins.counts.errors; bridges = begins.counts.bridges })))
+no_line plant fs d bytes none = inl (
+  refl,
+  λ l begins.
+      none-some (line_with plant.devices fs (length plant.links) l d, begins.rest)
+      (sym none ∙ ap (line_read plant.devices fs (length plant.links) d) begins.text
+      ∙ line_again plant.devices fs (length plant.links) l d begins.rest (record { errors = begins.counts.errors; bridges = begins.counts.bridges })),
+)
 
 ok_same : {A E : Type 0} (x y : A) → ◌≡◌ {A = Result A E} (Ok x) (Ok y) → x ≡ y
 ok_same x y same = cc

@@ -1,11 +1,9 @@
 -- A line's text is read as the line, and what is read is the text of a line.
-use Rattle.std.proofs.Common.{◌≡◌, ◌<◌, ◌≤◌, ◌+◌, ◌-◌, ◌==◌, ℕ, zero, suc, ℤ, Bool, true, false, List, [], ◌∷◌, ◌++◌, length, Option, Some, None, refl, sym, ◌∙◌, ap, subst, arith, append_assoc, length-append, inl, inr}
+use Rattle.std.proofs.Common.{◌≡◌, ◌<◌, ◌≤◌, ◌==◌, ℕ, zero, suc, ℤ, List, [], ◌∷◌, ◌++◌, length, Option, Some, None, refl, sym, ◌∙◌, ap, arith, append_assoc, length-append, inl, inr}
 use Rattle.std.proofs.lemmas.Bool.{cases_Bool, eqb-true}
-use Rattle.std.proofs.lemmas.Option.{none-some, same_Some, some_pair_parts}
-use Rattle.irt_base.specs.declared.plants.Device.{Device}
-use Rattle.irt_world.specs.declared.forwardings.Forwarding.{Forwarding}
-use Rattle.world_file.specs.Reading.{◌>>=◌, after_byte, after_letter, delays_read, each_read, errors_read, is_digit, line_read, links_read, number_read, with_delay, with_error, with_link}
-use Rattle.world_file.specs.Text.{Line, integer_text, line_text, numbers_text}
+use Rattle.std.proofs.lemmas.Option.{none-some, same_Some}
+use Rattle.world_file.specs.Reading.{◌>>=◌, each_read, links_read, number_read, with_link}
+use Rattle.world_file.specs.Text.{integer_text, numbers_text}
 use Rattle.world_file.specs.declared.draft.Draft.{Draft}
 use Rattle.world_file.specs.declared.number.Number.{Number}
 use Rattle.world_file.proofs.NumberText.{NoDigit, near, number_again}

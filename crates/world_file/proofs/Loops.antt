@@ -1,9 +1,8 @@
 -- Reading in a loop: what is still read goes on as all of it does.
-use Rattle.std.proofs.Common.{◌≡◌, ◌<◌, ◌-◌, ◌+◌, ◌==◌, true, false, Bool, if◌then◌else◌, ℕ, zero, suc, List, [], ◌∷◌, drop, length, Option, Some, None, Result, Err, refl, sym, ◌∙◌, ap, subst, arith}
+use Rattle.std.proofs.Common.{◌≡◌, ◌<◌, ◌-◌, ◌+◌, ◌==◌, true, false, Bool, if◌then◌else◌, ℕ, zero, suc, List, [], ◌∷◌, drop, length, Option, Some, None, Result, Err, refl, sym, ◌∙◌, ap, arith}
 use Rattle.std.proofs.lemmas.Option.{none-some}
 use Rattle.world_file.specs.Reading.{◌>>=◌, Gives, after_byte, each_read, links_read, number_read, with_link}
 use Rattle.world_file.specs.declared.draft.Draft.{Draft}
-use Rattle.world_file.specs.declared.fault.Form.{Form}
 use Rattle.world_file.specs.declared.fault.LineFault.{LineFault}
 use Rattle.world_file.specs.declared.fault.LineFault.TheVariants as faults
 use Rattle.world_file.specs.declared.number.Number.{Number}

@@ -1,8 +1,8 @@
 -- What is read as a number is its text.
-use Rattle.std.proofs.Common.{◌≡◌, ◌<◌, ◌≤◌, ◌+◌, ◌-◌, ◌*◌, ◌==◌, ◌&&◌, ℕ, zero, suc, ℤ, pos, negsuc, Bool, true, false, if◌then◌else◌, min, List, [], ◌∷◌, ◌++◌, Option, Some, None, refl, sym, ◌∙◌, ap, subst, arith, append_assoc, nat_le, inl, inr}
+use Rattle.std.proofs.Common.{◌≡◌, ◌<◌, ◌≤◌, ◌+◌, ◌-◌, ◌*◌, ◌==◌, ℕ, zero, suc, ℤ, pos, negsuc, true, false, min, List, [], ◌∷◌, ◌++◌, Option, Some, None, refl, sym, ◌∙◌, ap, arith, append_assoc, nat_le, inl, inr}
 use Rattle.std.proofs.lemmas.Bool.{cases_Bool, cases_lt, and_parts, leb-true, eqb-true, eq-eqb}
 use Rattle.std.proofs.lemmas.Option.{none-some, same_Some}
-use Rattle.world_file.specs.Reading.{◌>>=◌, after_byte, digits_read, integer_read, is_digit, natural_read, negative_read, number_read, plain}
+use Rattle.world_file.specs.Reading.{◌>>=◌, digits_read, integer_read, is_digit, natural_read, negative_read, number_read, plain}
 use Rattle.world_file.specs.Text.{integer_text, natural_text}
 use Rattle.world_file.specs.declared.number.Number.{Number}
 use Rattle.world_file.specs.declared.number.TheConstants.{FAR}
@@ -32,7 +32,7 @@ digits_taken n (b ∷ bs) some =
           let back : 48 + (b - 48) ≡ b = omega (arith, within) in
           let text : natural_text n ++ b ∷ bs ≡ natural_text (10 * n + (b - 48)) ++ bs =
           sym (ap (λ t. t ++ bs) (natural_text-more n (b - 48) some (omega (arith, within))) ∙ append_assoc (natural_text n) ((48 + (b - 48)) ∷ []) bs
-              ∙ ap (λ c. natural_text n ++ c ∷ bs) back) in
+          ∙ ap (λ c. natural_text n ++ c ∷ bs) back) in
           record {
             n = more.n;
             size = ap (λ x. x.0) (sym same) ∙ more.size;
@@ -119,7 +119,7 @@ negative_taken b bs None is x minus same = absurd (none-some x same)
 negative_taken b bs (Some y) is x minus same =
     elim (cases_Bool (y.0 == 0)) [
       | inl nothing ↦ absurd (none-some x (rw nothing at same))
-      | inr something ↦ 
+      | inr something ↦
           let taken = natural_taken bs y is in
           with_minus b bs y taken.n taken.size taken.text x minus something (same_Some (record { negative = true; size = y.0 }, y.1) x (rw something at same))
     ]

@@ -1,11 +1,11 @@
 -- The text of a number is read as that number, and what is read is a text.
-use Rattle.std.proofs.Common.{◌≡◌, ◌<◌, ◌≤◌, ◌+◌, ◌-◌, ◌*◌, ◌/◌, ◌%◌, ◌==◌, ◌&&◌, ℕ, zero, suc, ℤ, pos, negsuc, Bool, true, false, if◌then◌else◌, min, List, [], ◌∷◌, ◌++◌, map, Option, Some, None, refl, sym, ◌∙◌, ap, subst, arith, append_assoc, nat_le, inl, inr}
+use Rattle.std.proofs.Common.{◌≡◌, ◌<◌, ◌≤◌, ◌+◌, ◌-◌, ◌*◌, ◌/◌, ◌%◌, ◌==◌, ℕ, zero, suc, ℤ, pos, negsuc, true, false, min, List, [], ◌∷◌, ◌++◌, map, Some, refl, sym, ◌∙◌, ap, subst, arith, append_assoc, nat_le, inl, inr}
 use Rattle.std.specs.Int.Digits.{digits_of}
-use Rattle.std.proofs.lemmas.Bool.{cases_Bool, cases_lt, and_from, and_parts, le-leb, leb-true, eqb-true, eq-eqb}
+use Rattle.std.proofs.lemmas.Bool.{cases_Bool, cases_lt, and_from, le-leb, eqb-true}
 use Rattle.std.proofs.lemmas.Int.Digits.{digits_of_step}
 use Rattle.std.proofs.lemmas.List.{map-append}
-use Rattle.std.proofs.lemmas.Option.{none-some, same_Some}
-use Rattle.world_file.specs.Reading.{◌>>=◌, after_byte, digits_read, integer_read, is_digit, natural_read, negative_read, number_read, plain}
+use Rattle.std.proofs.lemmas.Option.{none-some}
+use Rattle.world_file.specs.Reading.{digits_read, integer_read, is_digit, natural_read, number_read, plain}
 use Rattle.world_file.specs.Text.{integer_text, natural_text}
 use Rattle.world_file.specs.declared.number.Number.{Number}
 use Rattle.world_file.specs.declared.number.TheConstants.{FAR}

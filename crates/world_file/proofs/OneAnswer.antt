@@ -1,24 +1,21 @@
 -- A file has one answer: a world or a first wrong line and place.
-use Rattle.std.proofs.Common.{◌≡◌, ◌<◌, ◌≤◌, ◌+◌, ◌-◌, ◌⊎◌, ◌^◌, ℕ, zero, suc, ℤ, pos, ◌<ℤ◌, Bool, true, false, if◌then◌else◌, List, [], ◌∷◌, ◌++◌, map, length, take, get_or, slice_get, All, Option, Some, None, Result, Ok, Err, refl, sym, ◌∙◌, ap, subst, arith, append_assoc, inl, inr}
-use Rattle.std.specs.List.{AllByRecursion}
+use Rattle.std.proofs.Common.{◌≡◌, ◌<◌, ◌+◌, ℕ, zero, suc, pos, Bool, true, false, if◌then◌else◌, List, [], ◌∷◌, ◌++◌, map, length, take, get_or, slice_get, All, Option, Some, None, Result, Ok, Err, refl, sym, ◌∙◌, ap, subst, arith, inl, inr}
 use Rattle.std.specs.List.Sorted.{IsStrictlyIncreasing}
 use Rattle.std.proofs.lemmas.Int.{ints}
 use Rattle.std.proofs.lemmas.List.{length-map}
-use Rattle.std.proofs.lemmas.List.Elements.{All-head, All-tail}
 use Rattle.std.proofs.lemmas.Option.{none-some, same_Some, get_or_from_slice_get, slice_get_within}
 use Rattle.irt_base.specs.declared.blocks.Bundle.{Bundle}
 use Rattle.irt_base.specs.declared.plants.Plant.{Plant}
 use Rattle.irt_world.specs.Forwardings.{forwardings}
 use Rattle.irt_world.specs.Rows.{IsError, IsRowOf}
-use Rattle.irt_world.specs.declared.forwardings.Forwarding.{Forwarding}
 use Rattle.irt_world.specs.declared.rows.Row.{Row}
 use Rattle.plan_rules.specs.Plan.{IsPlan}
 use Rattle.world_file.specs.Reading.{empty_draft, line_read, next_place}
-use Rattle.world_file.specs.Text.{Line, line_of, line_text, rows_text}
+use Rattle.world_file.specs.Text.{Line, line_of, line_text}
 use Rattle.world_file.specs.Wrong.{Ascends, BeginsWith, HasCounts, IsDelay, IsFirstWrongPlace, IsLinkNumber, IsWrongLine, IsWrongPlace}
 use Rattle.world_file.specs.declared.draft.Draft.{Draft}
 use Rattle.world_file.proofs.FirstWrong.{plain_at}
-use Rattle.world_file.proofs.Judged.{IsKept, Judgement, judged}
+use Rattle.world_file.proofs.Judged.{Judgement, judged}
 use Rattle.world_file.proofs.PlanBounds.{delays_small, few_links}
 use Rattle.world_file.proofs.WholeLine.{line_again, line_taken, line_with}
 
@@ -123,7 +120,7 @@ wrong_answer plant bundles l rest place d true is first j =
 wrong_answer plant bundles l rest place d false is first j =
     let kept = j.right is in
     absurd (none_wrong plant bundles d.row place (kept.fits bundles refl)
-            (subst (λ k. IsWrongPlace plant (forwardings plant bundles) k place) (sym kept.line) first.wrong))
+    (subst (λ k. IsWrongPlace plant (forwardings plant bundles) k place) (sym kept.line) first.wrong))
 
 nothing_read : (plant : Plant) (bundles : List Bundle) (bytes : List ℕ) (read : Option (Draft × List ℕ)) →
     line_read plant.devices (forwardings plant bundles) (length plant.links) empty_draft bytes ≡ read →

@@ -1,7 +1,7 @@
 -- How many forwardings and links a plan has, and how great a bridge delay is.
-use Rattle.std.proofs.Common.{◌≡◌, ◌<◌, ◌≤◌, ◌+◌, ◌*◌, ◌^◌, ◌==◌, ◌&&◌, ◌||◌, nat_le, ℕ, zero, suc, Bool, true, false, List, [], ◌∷◌, ◌++◌, map, filter, length, slice_get, Option, Some, None, All, refl, sym, ◌∙◌, ap, subst, arith, length-append, inl, inr}
+use Rattle.std.proofs.Common.{◌≡◌, ◌<◌, ◌≤◌, ◌+◌, ◌*◌, ◌^◌, ◌==◌, nat_le, ℕ, suc, Bool, true, false, List, [], ◌∷◌, ◌++◌, map, filter, length, All, sym, arith, length-append, inl, inr}
 use Rattle.std.specs.List.{AllByRecursion, IsDistinct, list_any}
-use Rattle.std.proofs.lemmas.Bool.{and_from, and_parts, cases_Bool, eq-eqb, eqb-true, leb-true}
+use Rattle.std.proofs.lemmas.Bool.{and_parts, cases_Bool, eq-eqb, eqb-true, leb-true}
 use Rattle.std.proofs.lemmas.List.{length-map}
 use Rattle.std.proofs.lemmas.List.Elements.{All-head, All-tail}
 use Rattle.std.proofs.lemmas.Map.Keys.{IsDistinct-cons, IsDistinct-head, IsDistinct-tail}
@@ -50,8 +50,14 @@ few_from n (d ∷ ds) (b ∷ bs) all =
     let here = (All-head IsBundle b bs all).frames.count in
     let more = few_from (suc n) ds bs (All-tail IsBundle b bs all) in
     let kept = few_filtered (is_delayed d) b.frames.entries in
-    omega (arith, here, more, kept, length-map (filter (is_delayed d) b.frames.entries) (forwarding_of n d),
-           length-append (forwardings_at n d b) (forwardings_from (suc n) ds bs))
+    omega (
+      arith,
+      here,
+      more,
+      kept,
+      length-map (filter (is_delayed d) b.frames.entries) (forwarding_of n d),
+      length-append (forwardings_at n d b) (forwardings_from (suc n) ds bs),
+    )
 few_from n (d ∷ ds) [] all = omega arith
 few_from n [] bs all = omega arith
 

@@ -1,5 +1,5 @@
 -- Any bytes are the file of a world, or have a first wrong line and place.
-use Rattle.std.proofs.Common.{◌≡◌, ◌<◌, ◌+◌, ◌⊎◌, ℕ, zero, suc, Bool, true, false, if◌then◌else◌, List, [], ◌∷◌, ◌++◌, length, Option, Some, None, Ok, Err, refl, sym, ◌∙◌, ap, arith, inl, inr}
+use Rattle.std.proofs.Common.{◌≡◌, ◌<◌, ◌+◌, ◌⊎◌, ℕ, zero, suc, Bool, true, false, List, [], ◌∷◌, ◌++◌, length, Option, Some, None, Ok, Err, refl, sym, ◌∙◌, ap, arith, inl, inr}
 use Rattle.std.proofs.lemmas.List.{append-nil}
 use Rattle.irt_base.specs.declared.blocks.Bundle.{Bundle}
 use Rattle.irt_base.specs.declared.plants.Plant.{Plant}
@@ -27,23 +27,30 @@ at_end : (plant : Plant) (bundles : List Bundle) (cycles : ℕ) (bytes : List �
 at_end plant bundles cycles bytes rows [] read =
     inl (record { rows = rows }, record { count = read.count; fits = read.before; text = read.text ∙ append-nil (rows_text rows) })
 at_end plant bundles cycles bytes rows (b ∷ bs) read =
-    inr (cycles + 1, 0, record {
-      rows = rows;
-      rest = b ∷ bs;
-      at = ap (λ n. n + 1) (sym read.count);
-      before = read.before;
-      text = read.text;
-      wrong = inr (read.count, omega arith, refl);
-    })
+    inr (
+      cycles + 1,
+      0,
+      record {
+        rows = rows;
+        rest = b ∷ bs;
+        at = ap (λ n. n + 1) (sym read.count);
+        before = read.before;
+        text = read.text;
+        wrong = inr (read.count, omega arith, refl);
+      },
+    )
 
 next_answer : (plant : Plant) (bundles : List Bundle) (cycles : ℕ) (bytes : List ℕ) (rows : List Row) (rest : List ℕ) (cycle : ℕ) → IsReadTo plant bundles bytes rows rest cycle →
     cycle < cycles → (d : Draft) (after : List ℕ) (wrong : Bool) → d.is_wrong ≡ wrong → LineFacts plant (forwardings plant bundles) rest d after →
     ((row : Row) → IsReadTo plant bundles bytes (rows ++ row ∷ []) after (cycle + 1) → HasAnswer plant bundles cycles bytes) → HasAnswer plant bundles cycles bytes
 next_answer plant bundles cycles bytes rows rest cycle read within d after true is facts more =
     let verdict : verdict_of (cycle + 1) d ≡ Err (Refused (cycle + 1) (next_place d.row)) = rw is refl in
-    inr (cycle + 1, next_place d.row,
-         refusal_at plant bundles bytes rows rest cycle cycles (Refused (cycle + 1) (next_place d.row)) read within
-         (facts.refused (cycle + 1) (Refused (cycle + 1) (next_place d.row)) verdict))
+    inr (
+      cycle + 1,
+      next_place d.row,
+      refusal_at plant bundles bytes rows rest cycle cycles (Refused (cycle + 1) (next_place d.row)) read within
+          (facts.refused (cycle + 1) (Refused (cycle + 1) (next_place d.row)) verdict),
+    )
 next_answer plant bundles cycles bytes rows rest cycle read within d after false is facts more =
     let verdict : verdict_of (cycle + 1) d ≡ Ok d.row = rw is refl in
     more d.row (row_read plant bundles bytes rows (rows ++ d.row ∷ []) d.row rest after cycle refl read (facts.found (cycle + 1) d.row verdict bundles refl))
@@ -54,8 +61,12 @@ next_read : (plant : Plant) (bundles : List Bundle) (cycles : ℕ) (bytes : List
     ((row : Row) (after : List ℕ) → IsReadTo plant bundles bytes (rows ++ row ∷ []) after (cycle + 1) → HasAnswer plant bundles cycles bytes) →
     HasAnswer plant bundles cycles bytes
 next_read plant bundles cycles bytes rows rest cycle plan read within None is more =
-    inr (cycle + 1, 0, refusal_at plant bundles bytes rows rest cycle cycles (Refused (cycle + 1) 0) read within
-        (refl, no_line plant (forwardings plant bundles) empty_draft rest is))
+    inr (
+      cycle + 1,
+      0,
+      refusal_at plant bundles bytes rows rest cycle cycles (Refused (cycle + 1) 0) read within
+          (refl, no_line plant (forwardings plant bundles) empty_draft rest is),
+    )
 next_read plant bundles cycles bytes rows rest cycle plan read within (Some x) is more =
     next_answer plant bundles cycles bytes rows rest cycle read within x.0 x.1 x.0.is_wrong refl
     (line_facts plant (forwardings plant bundles) empty_draft rest x.0 x.1 refl (few_links plant plan.rules) (delays_small plant bundles plan) is)

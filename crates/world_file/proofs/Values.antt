@@ -1,7 +1,6 @@
 -- The values that are kept are those in range, and the first that is not is the wrong one.
-use Rattle.std.proofs.Common.{◌≡◌, ◌<◌, ◌≤◌, ◌+◌, ◌-◌, ◌⊎◌, ◌&&◌, ℕ, zero, suc, ℤ, pos, negsuc, neg_ℤ, ◌≤ℤ◌, ◌<ℤ◌, min, nat_le, nat_lt, not, Bool, true, false, if◌then◌else◌, List, [], ◌∷◌, ◌++◌, map, length, slice_get, Some, refl, sym, ◌∙◌, ap, subst, arith, append_assoc, inl, inr}
-use Rattle.std.specs.List.{AllByRecursion}
-use Rattle.std.proofs.lemmas.Bool.{and_parts, cases_Bool, leb-true, ltb-true, le-leb, lt-ltb, and_from}
+use Rattle.std.proofs.Common.{◌≡◌, ◌<◌, ◌≤◌, ◌&&◌, ℕ, suc, ℤ, pos, negsuc, neg_ℤ, ◌≤ℤ◌, min, nat_le, nat_lt, not, Bool, true, false, length, refl, sym, ◌∙◌, ap, arith}
+use Rattle.std.proofs.lemmas.Bool.{and_parts, leb-true, ltb-true, le-leb, lt-ltb, and_from}
 use Rattle.std.proofs.lemmas.Int.{ints}
 use Rattle.irt_base.specs.Valid.{IsWithin}
 use Rattle.irt_base.specs.declared.limits.TheConstants.{MAX_ERROR}
@@ -9,7 +8,7 @@ use Rattle.irt_base.specs.declared.plants.Plant.{Plant}
 use Rattle.irt_world.specs.Rows.{IsError}
 use Rattle.irt_world.specs.declared.forwardings.Forwarding.{Forwarding}
 use Rattle.world_file.specs.Reading.{is_delay, is_error, is_link, signed_of}
-use Rattle.world_file.specs.Wrong.{Ascends, IsDelay, IsLinkNumber}
+use Rattle.world_file.specs.Wrong.{IsDelay, IsLinkNumber}
 use Rattle.world_file.specs.declared.number.Number.{Number}
 use Rattle.world_file.specs.declared.number.TheConstants.{FAR}
 use Rattle.world_file.proofs.NumberText.{near}
@@ -59,8 +58,8 @@ wrong_delay f (pos n) bound test = λ is.
     let (low, high) = is in
     refused (is_delay f (near (pos n)))
     (and_from (not false && nat_le f.bmin (min n FAR)) (nat_le (min n FAR) f.bmax)
-     (and_from (not false) (nat_le f.bmin (min n FAR)) refl (le-leb f.bmin (min n FAR) (omega (arith, ints, low, high))))
-     (le-leb (min n FAR) f.bmax (omega (arith, ints, low, high))))
+    (and_from (not false) (nat_le f.bmin (min n FAR)) refl (le-leb f.bmin (min n FAR) (omega (arith, ints, low, high))))
+    (le-leb (min n FAR) f.bmax (omega (arith, ints, low, high))))
     test
 wrong_delay f (negsuc n) bound test = λ is. let low = is.0 in absurd (omega (arith, ints, low))
 
@@ -79,7 +78,7 @@ wrong_link least plant (pos n) bound test = λ is.
     let high = number.1 in
     refused (is_link least (length plant.links) (near (pos n)))
     (and_from (not false && nat_le least (min n FAR)) (nat_lt (min n FAR) (length plant.links))
-     (and_from (not false) (nat_le least (min n FAR)) refl (le-leb least (min n FAR) (omega (arith, ints, low, high))))
-     (lt-ltb (min n FAR) (length plant.links) (omega (arith, ints, low, high))))
+    (and_from (not false) (nat_le least (min n FAR)) refl (le-leb least (min n FAR) (omega (arith, ints, low, high))))
+    (lt-ltb (min n FAR) (length plant.links) (omega (arith, ints, low, high))))
     test
 wrong_link least plant (negsuc n) bound test = λ is. let low = is.0.0 in absurd (omega (arith, ints, low))

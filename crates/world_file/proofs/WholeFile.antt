@@ -1,5 +1,5 @@
 -- Reading a whole file: the laws of worlds and of first wrong places.
-use Rattle.std.proofs.Common.{◌≡◌, ◌<◌, ◌≤◌, ◌+◌, ◌-◌, ◌⊎◌, ℕ, zero, suc, List, [], ◌∷◌, ◌++◌, length, All, Result, Ok, Err, refl, sym, ◌∙◌, ap, subst, arith, append_assoc, inl, inr}
+use Rattle.std.proofs.Common.{◌≡◌, ◌<◌, ◌+◌, ◌-◌, ◌⊎◌, ℕ, zero, suc, List, [], ◌∷◌, ◌++◌, length, All, Result, Ok, Err, refl, sym, ◌∙◌, ap, subst, arith, append_assoc, inl, inr}
 use Rattle.std.specs.Prelude.{IfErr, IfOk, IsErrAnd, MatchResult}
 use Rattle.std.proofs.lemmas.List.Elements.{All-head, All-tail}
 use Rattle.irt_base.specs.declared.blocks.Bundle.{Bundle}
@@ -51,7 +51,7 @@ world_walk plant bundles (row ∷ rows) zero line plan fit same = absurd (omega 
 world_walk plant bundles (row ∷ rows) (suc count) line plan fit same =
     walk-next plant bundles count line (rows_text (row ∷ rows))
     ∙ ap (λ r. and_then line r (λ rest. walk plant bundles count (line + 1) rest))
-        (row_next plant bundles row (rows_text rows) plan (All-head (IsRowOf plant bundles) row rows fit))
+    (row_next plant bundles row (rows_text rows) plan (All-head (IsRowOf plant bundles) row rows fit))
     ∙ ap (with_row row) (world_walk plant bundles rows count (line + 1) plan (All-tail (IsRowOf plant bundles) row rows fit) (omega arith))
 
 wrong_walk : (plant : Plant) (bundles : List Bundle) (rows : List Row) (rest : List ℕ) (count left line next : ℕ) (e : ℕ × ℕ) → IsPlan plant bundles →
@@ -66,23 +66,23 @@ wrong_walk plant bundles (row ∷ rows) rest (suc count) left line next e plan f
     walk-next plant bundles count line (rows_text (row ∷ rows) ++ rest)
     ∙ ap (λ t. and_then line (next_line plant bundles t) (λ u. walk plant bundles count (line + 1) u)) (append_assoc (line_text (line_of row)) (rows_text rows) rest)
     ∙ ap (λ r. and_then line r (λ u. walk plant bundles count (line + 1) u))
-        (row_next plant bundles row (rows_text rows ++ rest) plan (All-head (IsRowOf plant bundles) row rows fit))
+    (row_next plant bundles row (rows_text rows ++ rest) plan (All-head (IsRowOf plant bundles) row rows fit))
     ∙ ap (with_row row) (wrong_walk plant bundles rows rest count left (line + 1) next e plan (All-tail (IsRowOf plant bundles) row rows fit)
-        (omega (arith, counts)) (omega (arith, lines)) is)
+    (omega (arith, counts)) (omega (arith, lines)) is)
 
 first_walk : (plant : Plant) (bundles : List Bundle) (cycles : ℕ) (bytes : List ℕ) (line place : ℕ) → IsPlan plant bundles →
     IsFirstWrong plant bundles cycles bytes line place → walk plant bundles cycles 1 bytes ≡ Err (line, place)
 first_walk plant bundles cycles bytes line place plan w =
     ap (walk plant bundles cycles 1) w.text ∙ go w.wrong where
-  go : ((length w.rows < cycles) × IsWrongLine plant (forwardings plant bundles) w.rest place) ⊎ ((length w.rows ≡ cycles) × (0 < length w.rest) × (place ≡ 0)) →
-      walk plant bundles cycles 1 (rows_text w.rows ++ w.rest) ≡ Err (line, place)
-  go (inl (within, wrong)) =
-      wrong_walk plant bundles w.rows w.rest cycles (suc (cycles - (length w.rows + 1))) 1 line (line, place) plan w.before (omega (arith, within)) (omega (arith, w.at))
-      (walk-next plant bundles (cycles - (length w.rows + 1)) line w.rest
-       ∙ ap (λ r. and_then line r (λ u. walk plant bundles (cycles - (length w.rows + 1)) (line + 1) u)) (wrong_next plant bundles w.rest place plan wrong))
-  go (inr (same, some, whole)) =
-      wrong_walk plant bundles w.rows w.rest cycles 0 1 line (line, place) plan w.before (omega (arith, same)) (omega (arith, w.at))
-      (walk-past plant bundles line w.rest some ∙ ap (λ p. Err (line, p)) (sym whole))
+      go : ((length w.rows < cycles) × IsWrongLine plant (forwardings plant bundles) w.rest place) ⊎ ((length w.rows ≡ cycles) × (0 < length w.rest) × (place ≡ 0)) →
+          walk plant bundles cycles 1 (rows_text w.rows ++ w.rest) ≡ Err (line, place)
+      go (inl (within, wrong)) =
+          wrong_walk plant bundles w.rows w.rest cycles (suc (cycles - (length w.rows + 1))) 1 line (line, place) plan w.before (omega (arith, within)) (omega (arith, w.at))
+          (walk-next plant bundles (cycles - (length w.rows + 1)) line w.rest
+          ∙ ap (λ r. and_then line r (λ u. walk plant bundles (cycles - (length w.rows + 1)) (line + 1) u)) (wrong_next plant bundles w.rest place plan wrong))
+      go (inr (same, some, whole)) =
+          wrong_walk plant bundles w.rows w.rest cycles 0 1 line (line, place) plan w.before (omega (arith, same)) (omega (arith, w.at))
+          (walk-past plant bundles line w.rest some ∙ ap (λ p. Err (line, p)) (sym whole))
 
 file_walk : (plant : Plant) (bundles : List Bundle) (cycles : ℕ) (bytes : List ℕ) (world : World) → IsPlan plant bundles → IsWorldFile plant bundles cycles bytes world →
     walk plant bundles cycles 1 bytes ≡ Ok world.rows

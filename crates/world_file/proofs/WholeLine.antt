@@ -1,5 +1,5 @@
 -- Reading a whole line.
-use Rattle.std.proofs.Common.{◌≡◌, ◌==◌, ℕ, Bool, true, false, List, [], ◌∷◌, ◌++◌, length, Option, Some, None, refl, sym, ◌∙◌, ap, append_assoc, inl, inr}
+use Rattle.std.proofs.Common.{◌≡◌, ◌==◌, ℕ, List, [], ◌∷◌, ◌++◌, length, Option, Some, refl, sym, ◌∙◌, ap, append_assoc, inl, inr}
 use Rattle.std.proofs.lemmas.Bool.{cases_Bool, eqb-true}
 use Rattle.std.proofs.lemmas.Option.{none-some, same_Some}
 use Rattle.irt_base.specs.declared.plants.Device.{Device}
@@ -7,7 +7,6 @@ use Rattle.irt_world.specs.declared.forwardings.Forwarding.{Forwarding}
 use Rattle.world_file.specs.Reading.{◌>>=◌, after_byte, after_letter, delays_read, errors_read, line_read, links_read, with_delay, with_error}
 use Rattle.world_file.specs.Text.{Line, line_text, numbers_text}
 use Rattle.world_file.specs.declared.draft.Draft.{Draft}
-use Rattle.world_file.specs.declared.number.Number.{Number}
 use Rattle.world_file.proofs.LineText.{bind_some, each_again, each_taken, each_with, few_links, links_again, links_taken, links_with}
 
 -- The draft after an error for each device, and so on.

@@ -1,9 +1,9 @@
 -- Reading the lines of a file one after the other.
-use Rattle.std.proofs.Common.{◌≡◌, ◌<◌, ◌+◌, ℕ, List, [], ◌∷◌, ◌++◌, length, All, Result, Err, refl, sym, ◌∙◌, ap, subst, arith, append_assoc, inl, length-append}
+use Rattle.std.proofs.Common.{◌≡◌, ◌<◌, ◌+◌, ℕ, List, [], ◌∷◌, ◌++◌, length, All, Result, Err, sym, ◌∙◌, ap, subst, arith, append_assoc, inl, length-append}
 use Rattle.std.specs.Prelude.{IfErr}
 use Rattle.std.proofs.lemmas.List.{append-nil}
 use Rattle.std.proofs.lemmas.List.Concat.{flat_map-append}
-use Rattle.std.proofs.lemmas.List.Elements.{All-append, All-push}
+use Rattle.std.proofs.lemmas.List.Elements.{All-push}
 use Rattle.irt_base.specs.declared.blocks.Bundle.{Bundle}
 use Rattle.irt_base.specs.declared.plants.Plant.{Plant}
 use Rattle.irt_world.specs.Forwardings.{forwardings}
@@ -11,7 +11,7 @@ use Rattle.irt_world.specs.Rows.{IsRowOf}
 use Rattle.irt_world.specs.declared.forwardings.Forwarding.{Forwarding}
 use Rattle.irt_world.specs.declared.rows.Row.{Row}
 use Rattle.world_file.specs.Text.{line_of, line_text, rows_text}
-use Rattle.world_file.specs.Wrong.{IsFirstWrong, IsLineRefusal, IsRefusal, IsWrongLine}
+use Rattle.world_file.specs.Wrong.{IsLineRefusal, IsRefusal}
 use Rattle.world_file.specs.declared.fault.WorldFault.{WorldFault}
 use Rattle.world_file.specs.declared.fault.WorldFault.TheVariants.{NoMemory, Refused}
 
@@ -44,9 +44,9 @@ pub row_read : (plant : Plant) (bundles : List Bundle) (bytes : List ℕ) (rows 
 row_read plant bundles bytes rows more row rest after cycle pushed read found =
     subst (λ rs. IsReadTo plant bundles bytes rs after (cycle + 1)) (sym pushed)
     (record {
-       text = read.text ∙ ap (λ t. rows_text rows ++ t) found.1 ∙ sym (append_assoc (rows_text rows) (line_text (line_of row)) after)
-           ∙ ap (λ t. (rows_text rows ++ t) ++ after) (sym (append-nil (line_text (line_of row))))
-           ∙ ap (λ t. t ++ after) (sym (flat_map-append (λ (r : Row). line_text (line_of r)) rows (row ∷ [])));
-       before = All-push (IsRowOf plant bundles) rows row read.before found.0;
-       count = omega (arith, read.count, length-append rows (row ∷ []));
-     })
+      text = read.text ∙ ap (λ t. rows_text rows ++ t) found.1 ∙ sym (append_assoc (rows_text rows) (line_text (line_of row)) after)
+          ∙ ap (λ t. (rows_text rows ++ t) ++ after) (sym (append-nil (line_text (line_of row))))
+          ∙ ap (λ t. t ++ after) (sym (flat_map-append (λ (r : Row). line_text (line_of r)) rows (row ∷ [])));
+      before = All-push (IsRowOf plant bundles) rows row read.before found.0;
+      count = omega (arith, read.count, length-append rows (row ∷ []));
+    })

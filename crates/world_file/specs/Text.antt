@@ -4,7 +4,6 @@ use Rattle.std.specs.Int.Digits.{digits_of}
 use Rattle.std.specs.List.{flat_map}
 use Rattle.irt_base.specs.declared.blocks.Bundle.{Bundle}
 use Rattle.irt_base.specs.declared.plants.Plant.{Plant}
-use Rattle.irt_world.specs.Forwardings.{forwardings}
 use Rattle.irt_world.specs.Rows.{Fits}
 use Rattle.irt_world.specs.declared.rows.Row.{Row}
 use Rattle.irt_world.specs.declared.rows.World.{World}
@@ -48,7 +47,7 @@ world_text world = rows_text world.rows
 
 -- The bytes are the file of a world of so many cycles, which fits a plan.
 pub record IsWorldFile (plant : Plant) (bundles : List Bundle) (cycles : ℕ) (bytes : List ℕ) (world : World) : Type 0
-    where
-  pub count : length world.rows ≡ cycles
-  pub fits : Fits plant bundles world
-  pub text : bytes ≡ world_text world
+  where
+    pub count : length world.rows ≡ cycles
+    pub fits : Fits plant bundles world
+    pub text : bytes ≡ world_text world

@@ -1,5 +1,5 @@
 -- The first line and place at which a world file is wrong.
-use Rattle.std.specs.Prelude.{◌≡◌, ◌≢◌, ◌⊎◌, ℕ, ◌+◌, ◌<◌, ◌≤◌, ℤ, pos, ◌≤ℤ◌, ◌<ℤ◌, List, ◌++◌, All, length, take, slice_get, Some}
+use Rattle.std.specs.Prelude.{◌≡◌, ◌⊎◌, ℕ, ◌+◌, ◌<◌, ◌≤◌, ℤ, pos, ◌≤ℤ◌, ◌<ℤ◌, List, ◌++◌, All, length, take, slice_get, Some}
 use Rattle.std.specs.List.{AllByRecursion}
 use Rattle.irt_base.specs.declared.blocks.Bundle.{Bundle}
 use Rattle.irt_base.specs.declared.plants.Plant.{Plant}
@@ -78,14 +78,14 @@ IsWrongLine plant fs bytes place =
 -- The first line of a file that is wrong, from 1, and its first wrong place. All lines before it are rows in range.
 -- It is one of those wanted, or one too many.
 pub record IsFirstWrong (plant : Plant) (bundles : List Bundle) (cycles : ℕ) (bytes : List ℕ) (line place : ℕ) : Type 0
-    where
-  pub rows : List Row
-  pub rest : List ℕ
-  pub at : line ≡ length rows + 1
-  pub before : All (IsRowOf plant bundles) rows
-  pub text : bytes ≡ rows_text rows ++ rest
-  pub wrong : ((length rows < cycles) × IsWrongLine plant (forwardings plant bundles) rest place)
-      ⊎ ((length rows ≡ cycles) × (0 < length rest) × (place ≡ 0))
+  where
+    pub rows : List Row
+    pub rest : List ℕ
+    pub at : line ≡ length rows + 1
+    pub before : All (IsRowOf plant bundles) rows
+    pub text : bytes ≡ rows_text rows ++ rest
+    pub wrong : ((length rows < cycles) × IsWrongLine plant (forwardings plant bundles) rest place)
+        ⊎ ((length rows ≡ cycles) × (0 < length rest) × (place ≡ 0))
 
 -- a refusal names the first wrong line and place
 abbrev pub IsRefusal : Plant → List Bundle → ℕ → List ℕ → WorldFault → Type 0

@@ -34,14 +34,26 @@ pub(crate) fn read_number(bytes: &[u8]) -> Result<(Number, &[u8]), Form>
     match after_byte(bytes, b'-') {
         Err(Form) => {
             let (size, rest) = read_natural(bytes)?;
-            Ok((Number { negative: false, size }, rest))
+            Ok((
+                Number {
+                    negative: false,
+                    size,
+                },
+                rest,
+            ))
         }
         Ok(bytes) => {
             let (size, rest) = read_natural(bytes)?;
             if size == 0 {
                 return Err(Form);
             }
-            Ok((Number { negative: true, size }, rest))
+            Ok((
+                Number {
+                    negative: true,
+                    size,
+                },
+                rest,
+            ))
         }
     }
 }

@@ -110,10 +110,17 @@ fn judged(draft: Draft, line: u32) -> Result<Row, WorldFault>
     requires { next_place draft.row < 2 ^ 32 }
     ensures { result ≡ verdict_of line draft }
 {
-    let Draft { row, least_link: _, is_wrong } = draft;
+    let Draft {
+        row,
+        least_link: _,
+        is_wrong,
+    } = draft;
     if is_wrong {
         let place = row.errors.len() + row.bridges.len() + row.cuts.len() + 1;
-        return Err(WorldFault::Refused { line, place: place as u32 });
+        return Err(WorldFault::Refused {
+            line,
+            place: place as u32,
+        });
     }
     Ok(row)
 }
