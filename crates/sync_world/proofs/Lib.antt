@@ -4,6 +4,7 @@ mod Domains
 mod Exchanges
 mod Made
 mod Median
+mod OneReport
 mod Reports
 mod Rows
 mod Slaves

@@ -2,6 +2,8 @@
 
 ghost use Rattle.std.specs.Prelude.{ℕ, ◌*◌, ◌≤◌, ◌<◌, ◌↔◌, ◌≡◌, pos, length, true};
 ghost use Rattle.irt_base.specs.Cycle.{IsNear, budget_time};
+ghost use Rattle.irt_base.specs.declared.plants.Plant.{Plant};
+ghost use Rattle.irt_route.specs.Clocks.{ClockTable, IsClockTreeOf};
 ghost use Rattle.plan_rules.specs.World.{IsWithinWindow};
 ghost use Rattle.ptcp_core.specs.Clocks.{fresh_slave, state_of};
 ghost use Rattle.ptcp_core.specs.Honest.{after_all};
@@ -10,8 +12,10 @@ ghost use Rattle.sync_world.specs.Clocks.{age_of, clock_at, is_mute};
 ghost use Rattle.sync_world.specs.Domain.{IsDomain, delay_of, walk_of};
 ghost use Rattle.sync_world.specs.Events.{AreInTurn, Deliveries, events_to};
 ghost use Rattle.sync_world.specs.Lines.{measured};
+ghost use Rattle.sync_world.specs.Report.{report_lines};
 ghost use Rattle.sync_world.specs.declared.domain.Domain.{Domain};
 
+use irt_route::laws::{fronts_of_best_walks, parents_of_trees};
 use line_delay::honest::honest_law;
 use ptcp_core::honest::slave_law;
 
@@ -39,4 +43,13 @@ pub fn devices_mute_as_slaves()
         states.Muted)) }
 {
     slave_law();
+}
+
+/// A plant has one report: any two clock trees of it give the same lines.
+pub fn reports_are_one()
+    ensures { (seed : ℕ) (plant : Plant) (tree other : ClockTable) (cycles : ℕ) → IsClockTreeOf plant tree →
+        IsClockTreeOf plant other → report_lines seed plant tree cycles ≡ report_lines seed plant other cycles }
+{
+    fronts_of_best_walks();
+    parents_of_trees();
 }
