@@ -1,31 +1,37 @@
 -- What the status of a call tells.
-use Rattle.std.proofs.Common.{◌≡◌, ◌≢◌, ◌⊎◌, inl, inr, ℕ, suc, List, [], ◌∷◌, length, Option, Some, refl, sym, ◌∙◌, ap, subst}
-use Rattle.std.specs.List.{All}
+use Rattle.std.proofs.Common.{◌≡◌, ◌≢◌, ◌⊎◌, inl, inr, ℕ, suc, List, [], ◌∷◌, length, Option, Some, None, Result, Ok, Err, refl, sym, ◌∙◌, ap, subst, arith}
+use Rattle.std.specs.List.{All, AllByRecursion}
 use Rattle.std.proofs.lemmas.List.Elements.{All-cons, All-nil}
 use Rattle.irt_base.specs.Valid.{IsBundle}
 use Rattle.irt_base.specs.declared.blocks.Bundle.{Bundle}
 use Rattle.irt_base.specs.declared.plants.Device.{Device}
 use Rattle.irt_base.specs.declared.plants.Plant.{Plant}
 use Rattle.irt_io.specs.Files.{Files}
-use Rattle.irt_steps.specs.Ended.{Rose, EndsAs, as_stated, shelf_failed, sink_failed, no_memory, no_text}
-use Rattle.irt_steps.specs.Steps.{Ending, ending}
+use Rattle.irt_route.specs.Routes.{RouteTables, IsRoutesOf}
+use Rattle.fit_rules.specs.Blocks.{AreFirstFit}
+use Rattle.irt_steps.specs.Ended.{Rose, EndsAs, ended, IsOutcome, IsShelfFault, IsTextOf, as_stated, shelf_failed, sink_failed, no_memory, no_text}
+use Rattle.irt_steps.specs.Steps.{Ending, ending, Comes, FailsAt, Halts}
 use Rattle.irt_steps.proofs.EndedLemmas.{exact_of, ends_plainly}
 use Rattle.irt_words.specs.Asked.{asked_of, words_of, IsStated}
-use Rattle.irt_words.specs.Commands.{Command, check, show}
+use Rattle.irt_words.specs.Commands.{Command, plan, check, show, sync, run, run_world, gen, free}
 use Rattle.plan_rules.specs.Expected.{IsSafe}
 use Rattle.plan_rules.specs.Plan.{IsPlan}
 use Rattle.plan_rules.specs.Places.{IsAccepted}
 use Rattle.irt_main.specs.Call as calls
-use Rattle.irt_main.specs.Call.{Call, FollowsSteps, IsFaulty, TellsCause, HasEveryCause, IsSafeWhereAccepted, TellsUsage, TakesStated, TellsFaults, IsStatus}
+use Rattle.irt_main.specs.Call.{Call, FollowsSteps, IsFaulty, TellsCause, HasEveryCause, IsSafeWhereAccepted, StoresSafePlan, StoresInOrder, KeepsFiles, TellsUsage, TakesStated, TellsFaults, IsStatus}
 use Rattle.irt_main.specs.Cause as causes
 use Rattle.irt_main.specs.Cause.{IsCauseOf}
 use Rattle.irt_main.specs.Check.{ArePlanFiles, IsAcceptedPlan, IsSafePlan}
-use Rattle.irt_main.specs.Commands.{steps_of, IsNothing, IsUsage}
+use Rattle.irt_main.specs.Commands.{asked_steps, steps_of, StoresFiles, IsNothing, IsUsage}
 use Rattle.irt_main.specs.DeviceFiles.{AreBundleFiles}
 use Rattle.irt_main.specs.Lines.{usage_line}
+use Rattle.irt_main.specs.Plan.{plan_steps, IsStoredPlan, IsPlanInOrder}
 use Rattle.irt_main.proofs.CauseLemmas.{outcome_cause}
 use Rattle.irt_main.proofs.OneLemmas.{asked_one}
 use Rattle.irt_main.proofs.OutcomeLemmas.{cause_outcome, nothing_steps}
+use Rattle.irt_main.proofs.PlanLemmas.{PlanCame, stopped, refused, overran, stored, plan_by, refused_kept, stored_files, stops_status}
+use Rattle.irt_main.proofs.PlanOne.{TreeLaws, FitLaws, TextLaw}
+use Rattle.irt_main.proofs.StoreOrder.{ValidLaw, comes_order, fails_order, halts_order}
 
 -- ---- causes
 
@@ -44,7 +50,10 @@ cause_status files words _ (causes.absent name limit next none) = calls.absent
 cause_status files words _ (causes.too_long name limit next over) = calls.too_long
 cause_status files words _ (causes.no_plant name refusal is file) = calls.plant
 cause_status files words _ (causes.malformed name fault next bad) = calls.malformed
+cause_status files words _ (causes.no_walk name plant fault is file holds) = calls.no_walk
 cause_status files words _ (causes.rejects name plant reject is file) = calls.reject
+cause_status files words _ (causes.overruns name plant frame is file holds) = calls.overrun
+cause_status files words _ (causes.plans name plant bundles text is file are so) = calls.done
 cause_status files words _ (causes.accepts name is file) = calls.done
 cause_status files words _ (causes.shows name bundle is file) = calls.done
 
@@ -61,13 +70,13 @@ its_or_faulty : (status its : ℕ) → (status ≡ its) ⊎ (status ≡ 2) ⊎ (
 its_or_faulty status its (inl is) = inl is
 its_or_faulty status its (inr faults) = inr (faults_of status faults)
 
-pub has_every_cause : (c : Call) (status : ℕ) → FollowsSteps c status → HasEveryCause c status
-has_every_cause c status follows files e told cause =
+pub has_every_cause : TreeLaws → FitLaws → TextLaw → (c : Call) (status : ℕ) → FollowsSteps c status → HasEveryCause c status
+has_every_cause trees fits texts c status follows files e told cause =
     let over : EndsAs (steps_of c.words) c.shelf c.sink (Some files) c.files_after c.taken c.taken_after status =
     subst (λ f. EndsAs (steps_of c.words) c.shelf c.sink f c.files_after c.taken c.taken_after status) told follows in
+    let (end, is) = cause_outcome (Some files) c.words e cause in
     its_or_faulty status e.status
-    (exact_of (steps_of c.words) c.shelf c.sink files c.files_after c.taken c.taken_after status over (asked_one (asked_of c.words)) e (Some files)
-    (cause_outcome (Some files) c.words e cause))
+    (exact_of (steps_of c.words) c.shelf c.sink files c.files_after c.taken c.taken_after status over (asked_one trees fits texts (asked_of c.words)) e end is)
 
 -- ---- a plan that is accepted
 
@@ -108,7 +117,13 @@ cause_safe law files words _ name (causes.absent at limit next none) zero asked 
 cause_safe law files words _ name (causes.too_long at limit next over) zero asked = absurd cc
 cause_safe law files words _ name (causes.no_plant at refusal is file) zero asked = absurd cc
 cause_safe law files words _ name (causes.malformed at fault next bad) zero asked = absurd cc
+cause_safe law files words _ name (causes.no_walk at plant fault is file holds) zero asked = absurd cc
 cause_safe law files words _ name (causes.rejects at plant reject is file) zero asked = absurd cc
+cause_safe law files words _ name (causes.overruns at plant frame is file holds) zero asked = absurd cc
+cause_safe law files words _ name (causes.plans at plant bundles text is file are so) zero asked = absurd (other at name (sym is ∙ asked))
+  where
+    other : (a b : List ℕ) → Some (plan a) ≡ some_check b → ⊥
+    other a b same = absurd cc
 cause_safe law files words _ name (causes.accepts at is file) zero asked = subst (IsSafePlan files) (name_same (sym is ∙ asked)) (safe_file law files at file)
 cause_safe law files words _ name (causes.shows at bundle is file) zero asked = absurd (other at name (sym is ∙ asked))
   where
@@ -127,6 +142,104 @@ pub is_safe : Law → (c : Call) (status : ℕ) → TellsCause c status → IsSa
 is_safe law c status (inl faulty) zero name asked = absurd (not_faulty status faulty (inl zero))
 is_safe law c status (inr caused) zero name asked = cause_safe law c.files c.words caused.ending name caused.cause (caused.status_is ∙ zero) asked
 
+-- ---- what is stored
+
+-- first fit's bundles are a plan, its rules hold for them, and they are safe
+pub record PlanLaws : Type 0 where
+  pub plan : (plant : Plant) (routes : RouteTables) (bundles : List Bundle) → IsRoutesOf plant routes → AreFirstFit plant routes bundles → IsPlan plant bundles
+  pub accepted : (plant : Plant) (routes : RouteTables) (bundles : List Bundle) → IsRoutesOf plant routes → AreFirstFit plant routes bundles → IsAccepted plant bundles
+  pub safe : (plant : Plant) (routes : RouteTables) (bundles : List Bundle) → IsRoutesOf plant routes → AreFirstFit plant routes bundles → IsSafe plant bundles
+
+all_valid : (bundles : List Bundle) → All IsBundle bundles → AllByRecursion IsBundle bundles
+all_valid [] all = tt
+all_valid (b ∷ bs) all = (all 0 b (omega arith), all_valid bs (λ k d within. all (suc k) d (omega arith)))
+
+came_stored : PlanLaws → (files new : Option Files) (name : List ℕ) (answer : Result (List ℕ) Ending) → PlanCame files new name answer → (ended answer).status ≡ 0 → IsStoredPlan files new name
+came_stored laws files new name _ (stopped e kept stops) zero = absurd (stops_status files name e stops zero)
+came_stored laws files new name _ (refused p fault kept file holds) zero = absurd cc
+came_stored laws files new name _ (overran p frame kept file holds) zero = absurd cc
+came_stored laws files new name _ (stored p bundles text file are comes so) zero =
+    let plan = laws.plan p are.routes bundles are.are_routes are.first_fit in
+    record {
+      plant = p;
+      bundles = bundles;
+      plant_file = file;
+      first_fit = are;
+      device_files = stored_files p.devices bundles files new tt plan.rules.names_differ (all_valid bundles plan.blocks) plan.count comes;
+      accepted = laws.accepted p are.routes bundles are.are_routes are.first_fit;
+      safe = laws.safe p are.routes bundles are.are_routes are.first_fit;
+    }
+
+pub stores_safe : PlanLaws → (c : Call) (status : ℕ) → FollowsSteps c status → StoresSafePlan c status
+stores_safe laws c _ (as_stated o is appends) zero name asked =
+    let comes : Comes (plan_steps name) c.files c.files_after is.answer = subst (λ a. Comes (asked_steps a) c.files c.files_after is.answer) asked is.comes in
+    came_stored laws c.files c.files_after name is.answer (plan_by c.files c.files_after name is.answer comes) (ap (λ (x : Ending). x.status) (sym is.is) ∙ zero)
+stores_safe laws c _ (shelf_failed text is appends) zero name asked = absurd cc
+stores_safe laws c _ (sink_failed rose text is front) zero name asked = absurd cc
+stores_safe laws c _ (no_memory text is front) zero name asked = absurd cc
+stores_safe laws c _ (no_text halts kept) zero name asked = absurd cc
+
+-- a command that ended by a refusal kept the files
+err_kept : (files new : Option Files) (asked : Option Command) (e : Ending) → (¬ StoresFiles asked → new ≡ files) → Comes (asked_steps asked) files new (Err e) → new ≡ files
+err_kept files new (Some (plan p)) e kept comes = refused_kept files new p e comes
+err_kept files new (Some (check p)) e kept comes = kept (λ so. so)
+err_kept files new (Some (show f)) e kept comes = kept (λ so. so)
+err_kept files new None e kept comes = kept (λ so. so)
+err_kept files new (Some (sync p c s)) e kept comes = kept (λ so. so)
+err_kept files new (Some (run p c s)) e kept comes = kept (λ so. so)
+err_kept files new (Some (run_world p c w)) e kept comes = kept (λ so. so)
+err_kept files new (Some (gen s d f n)) e kept comes = kept (λ so. so)
+err_kept files new (Some (free p c s)) e kept comes = kept (λ so. so)
+
+answer_kept : (files new : Option Files) (asked : Option Command) (answer : Result (List ℕ) Ending) → (¬ StoresFiles asked → new ≡ files) → Comes (asked_steps asked) files new answer →
+    (ended answer).status ≢ 0 → new ≡ files
+answer_kept files new asked (Ok text) kept comes nonzero = absurd (nonzero refl)
+answer_kept files new asked (Err e) kept comes nonzero = err_kept files new asked e kept comes
+
+pub keeps_files : (c : Call) (status : ℕ) → (¬ StoresFiles (asked_of c.words) → c.files_after ≡ c.files) → FollowsSteps c status → KeepsFiles c status
+keeps_files c status kept follows = record { stores_none = kept; refused = refused_of c status kept follows }
+  where
+    refused_of : (c : Call) (status : ℕ) → (¬ StoresFiles (asked_of c.words) → c.files_after ≡ c.files) → FollowsSteps c status → status ≢ 0 → ¬ IsFaulty status → c.files_after ≡ c.files
+    refused_of c _ kept (as_stated o is appends) nonzero calm =
+        answer_kept c.files c.files_after (asked_of c.words) is.answer kept is.comes (λ zero. nonzero (ap (λ (x : Ending). x.status) is.is ∙ zero))
+    refused_of c _ kept (shelf_failed text is appends) nonzero calm = absurd (calm calls.shelf_fault)
+    refused_of c _ kept (sink_failed rose text is front) nonzero calm = absurd (calm calls.sink_fault)
+    refused_of c _ kept (no_memory text is front) nonzero calm = absurd (calm calls.no_memory)
+    refused_of c _ kept (no_text halts after_is) nonzero calm = absurd (calm calls.no_memory)
+
+-- ---- in which order it is stored
+
+valid_law : PlanLaws → ValidLaw
+valid_law laws plant bundles are =
+    let plan = laws.plan plant are.routes bundles are.are_routes are.first_fit in
+    (plan.rules.names_differ, all_valid bundles plan.blocks)
+
+pub stores_in_order : PlanLaws → (c : Call) (status : ℕ) → FollowsSteps c status → StoresInOrder c
+stores_in_order laws c status follows name asked = ordered c status follows asked
+  where
+    outcome_order : (c : Call) (o : Ending) → asked_of c.words ≡ Some (plan name) → IsOutcome (steps_of c.words) c.files c.files_after o →
+        (c.files_after ≡ c.files) ⊎ IsPlanInOrder c.files c.files_after name
+    outcome_order c o asked is =
+        comes_order (valid_law laws) c.files c.files_after name is.answer (subst (λ a. Comes (asked_steps a) c.files c.files_after is.answer) asked is.comes)
+
+    fault_order : (c : Call) (text : List ℕ) → asked_of c.words ≡ Some (plan name) → IsShelfFault (steps_of c.words) c.shelf c.files c.files_after text →
+        (c.files_after ≡ c.files) ⊎ IsPlanInOrder c.files c.files_after name
+    fault_order c text asked is =
+        fails_order (valid_law laws) c.files c.files_after name is.name (subst (λ a. FailsAt (asked_steps a) c.files c.files_after is.name) asked is.fails)
+
+    text_order : (c : Call) (text : List ℕ) → asked_of c.words ≡ Some (plan name) → IsTextOf (steps_of c.words) c.shelf c.files c.files_after text →
+        (c.files_after ≡ c.files) ⊎ IsPlanInOrder c.files c.files_after name
+    text_order c text asked (inl (o, is, same)) = outcome_order c o asked is
+    text_order c text asked (inr is) = fault_order c text asked is
+
+    ordered : (c : Call) (status : ℕ) → FollowsSteps c status → asked_of c.words ≡ Some (plan name) → (c.files_after ≡ c.files) ⊎ IsPlanInOrder c.files c.files_after name
+    ordered c _ (as_stated o is appends) asked = outcome_order c o asked is
+    ordered c _ (shelf_failed text is appends) asked = fault_order c text asked is
+    ordered c _ (sink_failed rose text is front) asked = text_order c text asked is
+    ordered c _ (no_memory text is front) asked = text_order c text asked is
+    ordered c _ (no_text halts kept) asked =
+        halts_order (valid_law laws) c.files c.files_after name (subst (λ a. Halts (asked_steps a) c.files c.files_after) asked halts)
+
 -- ---- usage
 
 cause_usage : (files : Option Files) (words : List (List ℕ)) (e : Ending) → IsCauseOf files words e → e.status ≡ 1 → IsUsage words
@@ -135,6 +248,9 @@ cause_usage files words _ (causes.absent name limit next none) one = absurd cc
 cause_usage files words _ (causes.too_long name limit next over) one = absurd cc
 cause_usage files words _ (causes.no_plant name refusal is file) one = absurd cc
 cause_usage files words _ (causes.malformed name fault next bad) one = absurd cc
+cause_usage files words _ (causes.no_walk name plant fault is file holds) one = absurd cc
+cause_usage files words _ (causes.overruns name plant frame is file holds) one = absurd cc
+cause_usage files words _ (causes.plans name plant bundles text is file are so) one = absurd cc
 cause_usage files words _ (causes.rejects name plant reject is file) one = absurd cc
 cause_usage files words _ (causes.accepts name is file) one = absurd cc
 cause_usage files words _ (causes.shows name bundle is file) one = absurd cc
@@ -165,6 +281,9 @@ cause_plain files words _ (causes.absent name limit next none) = ((λ so. absurd
 cause_plain files words _ (causes.too_long name limit next over) = ((λ so. absurd cc), λ so. absurd cc)
 cause_plain files words _ (causes.no_plant name refusal is file) = ((λ so. absurd cc), λ so. absurd cc)
 cause_plain files words _ (causes.malformed name fault next bad) = ((λ so. absurd cc), λ so. absurd cc)
+cause_plain files words _ (causes.no_walk name plant fault is file holds) = ((λ so. absurd cc), λ so. absurd cc)
+cause_plain files words _ (causes.overruns name plant frame is file holds) = ((λ so. absurd cc), λ so. absurd cc)
+cause_plain files words _ (causes.plans name plant bundles text is file are so) = ((λ so. absurd cc), λ so. absurd cc)
 cause_plain files words _ (causes.rejects name plant reject is file) = ((λ so. absurd cc), λ so. absurd cc)
 cause_plain files words _ (causes.accepts name is file) = ((λ so. absurd cc), λ so. absurd cc)
 cause_plain files words _ (causes.shows name bundle is file) = ((λ so. absurd cc), λ so. absurd cc)

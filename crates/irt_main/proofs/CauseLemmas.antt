@@ -13,11 +13,12 @@ use Rattle.irt_words.specs.Commands.{Command, plan, check, show, sync, run, run_
 use Rattle.irt_main.specs.Cause as causes
 use Rattle.irt_main.specs.Cause.{IsCauseOf}
 use Rattle.irt_main.specs.Check.{verdict_steps, blocks_steps, check_steps, ArePlanFiles}
-use Rattle.irt_main.specs.Commands.{asked_steps, steps_of, IsNothing}
+use Rattle.irt_main.specs.Commands.{asked_steps, plant_asked, steps_of, IsNothing}
 use Rattle.irt_main.specs.DeviceFiles.{bundle_steps, bundles_steps, AreBundleFiles}
 use Rattle.irt_main.specs.PlantFile.{plant_steps}
 use Rattle.irt_main.specs.Show.{show_steps}
 use Rattle.irt_main.proofs.FileLemmas.{PlantStops, StopsAt, plant_file, plant_stops, bundle_file, bundle_stops, bundle_next, bundles_ok, bundles_stop}
+use Rattle.irt_main.proofs.PlanLemmas.{PlanCame, stopped, refused, overran, stored, plan_by}
 
 abbrev Answer : Type 0
 Answer = Result (List ℕ) Ending
@@ -33,7 +34,7 @@ stops_at : (files : Option Files) (words : List (List ℕ)) (name : List ℕ) (e
 stops_at files words name e next (inl why) = unloaded_cause files words name DEVICE_FILE e next why
 stops_at files words name e next (inr (fault, bad, is)) = subst (IsCauseOf files words) (sym is) (causes.malformed name fault next bad)
 
-plant_stops_at : (files : Option Files) (words : List (List ℕ)) (name : List ℕ) (e : Ending) → asked_of words ≡ Some (check name) → LoadsNext (steps_of words) files name PLANT_FILE files →
+plant_stops_at : (files : Option Files) (words : List (List ℕ)) (name : List ℕ) (e : Ending) → plant_asked (asked_of words) ≡ Some name → LoadsNext (steps_of words) files name PLANT_FILE files →
     PlantStops files name e → IsCauseOf files words e
 plant_stops_at files words name e is next (inl why) = unloaded_cause files words name PLANT_FILE e next why
 plant_stops_at files words name e is next (inr (refusal, file, so)) = subst (IsCauseOf files words) (sym so) (causes.no_plant name refusal is file)
@@ -52,7 +53,7 @@ check_cause : (files new : Option Files) (words : List (List ℕ)) (name : List 
 check_cause files new words name result is comes = elim (comes_by (plant_steps name) blocks_steps files new result comes) [
   | inr (e, first, so) ↦
       let next : LoadsNext (steps_of words) files name PLANT_FILE files = subst (λ a. LoadsNext (asked_steps a) files name PLANT_FILE files) (sym is) (inl (refl, refl, refl)) in
-      subst (λ r. IsCauseOf files words (ended r)) (sym so) (plant_stops_at files words name e is next (plant_stops files new name e first))
+      subst (λ r. IsCauseOf files words (ended r)) (sym so) (plant_stops_at files words name e (ap plant_asked is) next (plant_stops files new name e first))
   | inl (p, mid, first, rest) ↦
       let read = plant_file files mid name p first in
       let later : Comes (blocks_steps p) files new result = subst (λ f. Comes (blocks_steps p) f new result) read.0 rest in
@@ -70,6 +71,16 @@ check_cause files new words name result is comes = elim (comes_by (plant_steps n
             (record { plant_file = read.1; device_files = subst (AreBundleFiles files p.devices) (sym all.1.2) all.1.1 }) last
       ]
 ]
+
+-- ---- plan
+
+plan_came_cause : (files new : Option Files) (words : List (List ℕ)) (name : List ℕ) (result : Answer) → asked_of words ≡ Some (plan name) → PlanCame files new name result →
+    IsCauseOf files words (ended result)
+plan_came_cause files new words name _ is (stopped e kept stops) =
+    plant_stops_at files words name e (ap plant_asked is) (subst (λ a. LoadsNext (asked_steps a) files name PLANT_FILE files) (sym is) (inl (refl, refl, refl))) stops
+plan_came_cause files new words name _ is (refused p fault kept file holds) = causes.no_walk name p fault is file holds
+plan_came_cause files new words name _ is (overran p frame kept file holds) = causes.overruns name p frame is file holds
+plan_came_cause files new words name _ is (stored p bundles text file are comes so) = causes.plans name p bundles text is file are so
 
 -- ---- show
 
@@ -96,9 +107,9 @@ nothing_cause files new words asked result is none same comes =
 asked_cause : (files new : Option Files) (words : List (List ℕ)) (asked : Option Command) (result : Answer) → asked_of words ≡ asked → Comes (asked_steps asked) files new result →
     IsCauseOf files words (ended result)
 asked_cause files new words (Some (check name)) result is comes = check_cause files new words name result is comes
+asked_cause files new words (Some (plan name)) result is comes = plan_came_cause files new words name result is (plan_by files new name result comes)
 asked_cause files new words (Some (show name)) result is comes = show_cause files new words name result is comes
 asked_cause files new words None result is comes = nothing_cause files new words None result is tt refl comes
-asked_cause files new words (Some (plan p)) result is comes = nothing_cause files new words (Some (plan p)) result is (λ built. built) refl comes
 asked_cause files new words (Some (sync p c s)) result is comes = nothing_cause files new words (Some (sync p c s)) result is (λ built. built) refl comes
 asked_cause files new words (Some (run p c s)) result is comes = nothing_cause files new words (Some (run p c s)) result is (λ built. built) refl comes
 asked_cause files new words (Some (run_world p c w)) result is comes = nothing_cause files new words (Some (run_world p c w)) result is (λ built. built) refl comes

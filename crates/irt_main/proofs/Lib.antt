@@ -5,3 +5,8 @@ mod FileLemmas
 mod NameLemmas
 mod OneLemmas
 mod OutcomeLemmas
+mod PlanLemmas
+mod PlanOne
+mod PlanSteps
+mod SpellingLemmas
+mod StoreOrder

@@ -15,8 +15,10 @@ use Rattle.plan_rules.proofs.Verdicts.{one_reject, refuted}
 use Rattle.plan_rules.specs.declared.place.Reject.{Reject}
 use Rattle.irt_main.specs.Check.{verdict_answer, verdict_steps, blocks_steps}
 use Rattle.irt_main.specs.Commands.{asked_steps}
-use Rattle.irt_main.specs.DeviceFiles.{bundle_answer, bundle_steps, device_file_of, device_steps, bundles_steps}
+use Rattle.irt_main.specs.DeviceFiles.{bundle_answer, bundle_steps, device_file_of, device_steps, bundles_steps, store_steps}
+use Rattle.irt_main.specs.Plan.{planning_answer, planning_steps, text_steps, stored_steps, planned_steps}
 use Rattle.irt_main.specs.PlantFile.{plant_answer, plant_steps}
+use Rattle.irt_main.proofs.PlanOne.{TreeLaws, FitLaws, TextLaw, one_planning}
 
 -- a plan has one verdict
 check_one : (plant : Plant) (bundles : List Bundle) (a b : Option Reject) → IsJudged plant bundles a → IsJudged plant bundles b → a ≡ b
@@ -41,13 +43,28 @@ bundles_one (d ∷ ds) front = after_one (device_steps d front) (bundles_steps d
 blocks_one : (plant : Plant) → IsOneWay (blocks_steps plant)
 blocks_one plant = after_one (bundles_steps plant.devices []) (verdict_steps plant) (bundles_one plant.devices []) (verdict_one plant)
 
-pub asked_one : (asked : Option Command) → IsOneWay (asked_steps asked)
-asked_one (Some (check name)) = after_one (plant_steps name) blocks_steps (λ bytes. judged_one (plant_answer (plant_of bytes))) blocks_one
-asked_one (Some (show name)) = after_one (bundle_steps name) (λ b. gives (bundle_text b)) (bundle_one name) (λ b. tt)
-asked_one None = tt
-asked_one (Some (plan p)) = tt
-asked_one (Some (sync p c s)) = tt
-asked_one (Some (run p c s)) = tt
-asked_one (Some (run_world p c w)) = tt
-asked_one (Some (gen s d f n)) = tt
-asked_one (Some (free p c s)) = tt
+stores_one : (devices : List Device) (bundles : List Bundle) → IsOneWay (store_steps devices bundles)
+stores_one [] bundles = tt
+stores_one (d ∷ ds) [] = tt
+stores_one (d ∷ ds) (b ∷ bs) = stores_one ds bs
+
+-- a plan has one text
+text_one : TextLaw → (plant : Plant) (bundles : List Bundle) → IsOneWay (text_steps plant bundles)
+text_one texts plant bundles = (texts plant bundles, λ text. tt)
+
+planned_one : TreeLaws → FitLaws → TextLaw → (plant : Plant) → IsOneWay (planned_steps plant)
+planned_one trees fits texts plant =
+    after_one (planning_steps plant) (stored_steps plant) (one_planning trees fits plant, λ found. judged_one (planning_answer plant found))
+    (λ bundles. after_one (store_steps plant.devices bundles) (λ done. text_steps plant bundles) (stores_one plant.devices bundles) (λ done. text_one texts plant bundles))
+
+module _ (trees : TreeLaws) (fits : FitLaws) (texts : TextLaw) where
+  pub asked_one : (asked : Option Command) → IsOneWay (asked_steps asked)
+  asked_one (Some (plan name)) = after_one (plant_steps name) planned_steps (λ bytes. judged_one (plant_answer (plant_of bytes))) (planned_one trees fits texts)
+  asked_one (Some (check name)) = after_one (plant_steps name) blocks_steps (λ bytes. judged_one (plant_answer (plant_of bytes))) blocks_one
+  asked_one (Some (show name)) = after_one (bundle_steps name) (λ b. gives (bundle_text b)) (bundle_one name) (λ b. tt)
+  asked_one None = tt
+  asked_one (Some (sync p c s)) = tt
+  asked_one (Some (run p c s)) = tt
+  asked_one (Some (run_world p c w)) = tt
+  asked_one (Some (gen s d f n)) = tt
+  asked_one (Some (free p c s)) = tt

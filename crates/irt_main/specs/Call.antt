@@ -6,10 +6,11 @@ use Rattle.irt_io.specs.Taken.{Appends}
 use Rattle.irt_steps.specs.Ended.{Counts, Rose, EndsAs}
 use Rattle.irt_steps.specs.Steps.{Ending}
 use Rattle.irt_words.specs.Asked.{asked_of, texts_of, words_of, IsStated}
-use Rattle.irt_words.specs.Commands.{Command, check}
+use Rattle.irt_words.specs.Commands.{Command, plan, check}
 use Rattle.irt_main.specs.Cause.{IsCauseOf}
 use Rattle.irt_main.specs.Check.{IsSafePlan}
-use Rattle.irt_main.specs.Commands.{IsBuilt, IsUsage, steps_of}
+use Rattle.irt_main.specs.Commands.{IsBuilt, IsUsage, StoresFiles, steps_of}
+use Rattle.irt_main.specs.Plan.{IsStoredPlan, IsPlanInOrder}
 
 -- the words, and the shelf and the sink before the call and after it
 pub record Call : Type 0 where
@@ -62,6 +63,21 @@ abbrev pub HasEveryCause : Call → ℕ → Type 0
 HasEveryCause c status = (files : Files) (e : Ending) → c.files ≡ Some files → IsCauseOf (Some files) c.words e →
     (status ≡ e.status) ⊎ IsFaulty status
 
+-- What `plan` stores is first fit's plan, and safe over every world.
+abbrev pub StoresSafePlan : Call → ℕ → Type 0
+StoresSafePlan c status =
+    status ≡ 0 → (name : List ℕ) → asked_of c.words ≡ Some (plan name) → IsStoredPlan c.files c.files_after name
+
+-- Whatever becomes of it, `plan` changes no file but those of the devices, one after the other.
+abbrev pub StoresInOrder : Call → Type 0
+StoresInOrder c = (name : List ℕ) → asked_of c.words ≡ Some (plan name) →
+    (c.files_after ≡ c.files) ⊎ IsPlanInOrder c.files c.files_after name
+
+-- A command that stores no files changes none, and a command that is refused changes none either.
+pub record KeepsFiles (c : Call) (status : ℕ) : Type 0 where
+  pub stores_none : ¬ StoresFiles (asked_of c.words) → c.files_after ≡ c.files
+  pub refused : status ≢ 0 → ¬ IsFaulty status → c.files_after ≡ c.files
+
 -- A plan that is accepted is safe over every world.
 abbrev pub IsSafeWhereAccepted : Call → ℕ → Type 0
 IsSafeWhereAccepted c status =
@@ -87,6 +103,8 @@ pub data IsStatus : ℕ → Type 0 where
   absent : IsStatus 3
   too_long : IsStatus 4
   plant : IsStatus 5
+  no_walk : IsStatus 6
   malformed : IsStatus 7
   reject : IsStatus 8
+  overrun : IsStatus 9
   faulty : {status : ℕ} → IsFaulty status → IsStatus status

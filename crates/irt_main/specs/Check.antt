@@ -1,7 +1,6 @@
 -- The command `check`: its steps, and what it tells of a plant's files.
-use Rattle.std.specs.Prelude.{ℕ, List, [], Option, Some, None, Result, Ok, Err, option_map, unwrap_or, slice_get}
+use Rattle.std.specs.Prelude.{ℕ, List, [], Option, Some, None, Result, Ok, Err}
 use Rattle.irt_base.specs.declared.blocks.Bundle.{Bundle}
-use Rattle.irt_base.specs.declared.plants.Device.{Device}
 use Rattle.irt_base.specs.declared.plants.Plant.{Plant}
 use Rattle.irt_io.specs.Files.{Files}
 use Rattle.irt_steps.specs.Steps.{Ending, ending, Steps, asks, after, judged}
@@ -11,12 +10,9 @@ use Rattle.plan_rules.specs.Places.{IsAccepted, IsReject}
 use Rattle.plan_rules.specs.declared.place.Reject.{Reject}
 use Rattle.irt_main.specs.DeviceFiles.{bundles_steps, AreBundleFiles}
 use Rattle.irt_main.specs.Lines.{accept_line, reject_line}
-use Rattle.irt_main.specs.PlantFile.{plant_steps, IsPlantFile}
+use Rattle.irt_main.specs.PlantFile.{plant_steps, name_of, IsPlantFile}
 
 -- ---- steps
-
-abbrev pub name_of : Plant → ℕ → List ℕ
-name_of plant device = unwrap_or (option_map (λ (d : Device). d.name) (slice_get plant.devices device)) []
 
 abbrev pub rejected : Plant → Reject → Ending
 rejected plant r =

@@ -2,18 +2,21 @@
 use Rattle.std.specs.Prelude.{ℕ, ⊤, List, Option, Some, None}
 use Rattle.irt_steps.specs.Steps.{ending, Steps, ends}
 use Rattle.irt_words.specs.Asked.{asked_of}
-use Rattle.irt_words.specs.Commands.{Command, check, show}
+use Rattle.irt_words.specs.Commands.{Command, plan, check, show}
 use Rattle.irt_main.specs.Check.{check_steps}
 use Rattle.irt_main.specs.Lines.{usage_line}
+use Rattle.irt_main.specs.Plan.{plan_steps}
 use Rattle.irt_main.specs.Show.{show_steps}
 
 -- A command that isn't built yet is none.
 abbrev pub asked_steps : Option Command → Steps (List ℕ)
+asked_steps (Some (plan plant)) = plan_steps plant
 asked_steps (Some (check plant)) = check_steps plant
 asked_steps (Some (show file)) = show_steps file
 asked_steps asked = ends (ending 1 usage_line)
 
 abbrev pub IsBuilt : Command → Type 0
+IsBuilt (plan plant) = ⊤
 IsBuilt (check plant) = ⊤
 IsBuilt (show file) = ⊤
 IsBuilt command = ⊥
@@ -21,6 +24,17 @@ IsBuilt command = ⊥
 abbrev pub IsNothing : Option Command → Type 0
 IsNothing None = ⊤
 IsNothing (Some command) = ¬ IsBuilt command
+
+-- the plant's file with which a command begins
+abbrev pub plant_asked : Option Command → Option (List ℕ)
+plant_asked (Some (plan plant)) = Some plant
+plant_asked (Some (check plant)) = Some plant
+plant_asked asked = None
+
+-- the command stores files
+abbrev pub StoresFiles : Option Command → Type 0
+StoresFiles (Some (plan plant)) = ⊤
+StoresFiles asked = ⊥
 
 abbrev pub steps_of : List (List ℕ) → Steps (List ℕ)
 steps_of words = asked_steps (asked_of words)

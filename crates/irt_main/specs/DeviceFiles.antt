@@ -1,4 +1,4 @@
--- The files of devices: the steps that read them, what they spell, and why one is malformed.
+-- The files of devices: the steps that read and store them, what they spell, and why one is malformed.
 use Rattle.std.specs.Prelude.{◌≡◌, ℕ, ⊤, List, [], ◌∷◌, ◌++◌, codes, Option, Result, Ok, Err}
 use Rattle.irt_base.specs.Valid.{IsBundle}
 use Rattle.irt_base.specs.declared.limits.TheConstants.{DEVICE_FILE}
@@ -8,7 +8,7 @@ use Rattle.irt_block.specs.declared.fault.BlockFault.{BlockFault}
 use Rattle.irt_block.specs.Header.{whole_of}
 use Rattle.irt_bundle.specs.Bundles.{bundle_in, bundle_bytes}
 use Rattle.irt_io.specs.Files.{Files}
-use Rattle.irt_steps.specs.Steps.{Ending, ending, Steps, gives, loads, after, judged, IsHeld}
+use Rattle.irt_steps.specs.Steps.{Ending, ending, Steps, gives, loads, stores, after, judged, IsHeld}
 use Rattle.irt_main.specs.Lines.{malformed_line}
 
 abbrev pub bundle_answer : List ℕ → Result Bundle BlockFault → Result Bundle Ending
@@ -31,6 +31,12 @@ device_steps d front = after (bundle_steps (device_file_of d.name)) (λ b. gives
 abbrev pub bundles_steps : List Device → List Bundle → Steps (List Bundle)
 bundles_steps [] front = gives front
 bundles_steps (d ∷ more) front = after (device_steps d front) (bundles_steps more)
+
+-- the files of devices are stored, in their order
+abbrev pub store_steps : List Device → List Bundle → Steps (Unit {0})
+store_steps [] bundles = gives tt
+store_steps (d ∷ more) [] = gives tt
+store_steps (d ∷ more) (b ∷ bundles) = stores (device_file_of d.name) (bundle_bytes b) (store_steps more bundles)
 
 -- a file holds the spelling of a bundle
 pub record IsBundleFile (files : Option Files) (name : List ℕ) (bundle : Bundle) : Type 0 where

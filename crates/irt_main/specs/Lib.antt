@@ -4,5 +4,6 @@ pub mod Check
 pub mod Commands
 pub mod DeviceFiles
 pub mod Lines
+pub mod Plan
 pub mod PlantFile
 pub mod Show

@@ -38,6 +38,18 @@ malformed_line name fault = codes "malformed " ++ name ++ 32 ∷ [] ++ decimal f
 abbrev pub accept_line : List ℕ
 accept_line = codes "ACCEPT\n"
 
+-- a frame and its first receiver to which no walk leads: `unreachable 0x0100 b`
+abbrev pub unreachable_line : ℕ → List ℕ → List ℕ
+unreachable_line frame device = codes "unreachable " ++ frame_text frame ++ 32 ∷ [] ++ device ++ 10 ∷ []
+
+-- the first traffic entry without a walk: `no path 0`
+abbrev pub no_path_line : ℕ → List ℕ
+no_path_line traffic = codes "no path " ++ decimal traffic ++ 10 ∷ []
+
+-- the first frame for which no phase has room: `overrun 0x0101`
+abbrev pub overrun_line : ℕ → List ℕ
+overrun_line frame = codes "overrun " ++ frame_text frame ++ 10 ∷ []
+
 -- the check rule that fails and its place: `REJECT V7 a 1 0x0100 0x0000`
 abbrev pub reject_line : ℕ → List ℕ → ℕ → ℕ → ℕ → List ℕ
 reject_line rule device port frame other =

@@ -1,7 +1,7 @@
 //! The lines that the commands print.
 
 ghost use Rattle.std.specs.Prelude.{◌≡◌, IfOk};
-ghost use Rattle.irt_main.specs.Lines.{usage_line, not_toml_line, rule_line, kind_text, malformed_line, accept_line, reject_line};
+ghost use Rattle.irt_main.specs.Lines.{usage_line, not_toml_line, rule_line, kind_text, malformed_line, accept_line, reject_line, unreachable_line, no_path_line, overrun_line};
 
 use irt_base::memory::NoMemory;
 use irt_base::numbers::FrameId;
@@ -56,6 +56,40 @@ fn kind_text(kind: BlockKind) -> &'static str
         BlockKind::BadValue => "BadValue",
         BlockKind::Trailing => "Trailing",
     }
+}
+
+/// A frame and its first receiver to which no walk leads; `device` is that receiver's name.
+pub fn unreachable_line(alloc: Global, frame: FrameId, device: &[u8]) -> Result<Vec<u8>, NoMemory>
+    ensures { IfOk result (λ v. v.items ≡ unreachable_line frame.0 device.now) }
+{
+    let mut name = [0; 6];
+    print_frame(&mut name, frame);
+    let mut line = Vec::from_slice(alloc, b"unreachable ")?;
+    line.extend_from_slice(&name)?;
+    line.extend_from_slice(b" ")?;
+    line.extend_from_slice(device)?;
+    line.extend_from_slice(b"\n")?;
+    Ok(line)
+}
+
+/// The first traffic entry without a walk.
+pub fn no_path_line(alloc: Global, traffic: u16) -> Result<Vec<u8>, NoMemory>
+    ensures { IfOk result (λ v. v.items ≡ no_path_line traffic) }
+{
+    let line = format!(in alloc; "no path {traffic}\n")?;
+    Ok(line.into_bytes())
+}
+
+/// The first frame for which no phase has room.
+pub fn overrun_line(alloc: Global, frame: FrameId) -> Result<Vec<u8>, NoMemory>
+    ensures { IfOk result (λ v. v.items ≡ overrun_line frame.0) }
+{
+    let mut name = [0; 6];
+    print_frame(&mut name, frame);
+    let mut line = Vec::from_slice(alloc, b"overrun ")?;
+    line.extend_from_slice(&name)?;
+    line.extend_from_slice(b"\n")?;
+    Ok(line)
 }
 
 /// Blocks that the rules accept.

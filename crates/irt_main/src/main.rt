@@ -4,6 +4,7 @@
 mod check;
 mod files;
 mod line;
+mod plan;
 mod show;
 mod top;
 
@@ -41,5 +42,7 @@ fn words_of(rt: &HostRuntime, alloc: Global) -> io::Result<Vec<String>> {
     Ok(words)
 }
 
+#[cfg(test)]
+mod plan_tests;
 #[cfg(test)]
 mod tests;

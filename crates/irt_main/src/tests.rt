@@ -12,11 +12,11 @@ use std::process::Abort;
 use std::test::Fail;
 use std::thread::Threads;
 
-const PLANT: &[u8] =
+pub(crate) const PLANT: &[u8] =
     b"factor = 32\nwindow = 1000\nred_max = 250000\norange = 0\nclocks = \"world\"\n[[device]]\nname = \"a\"\nmode = \"absolute\"\nbmin = 1000\nbmax = 3000\nports = [[100, 200]]\n[[device]]\nname = \"b\"\nmode = \"absolute\"\nbmin = 1000\nbmax = 3000\nports = [[100, 200]]\n[[link]]\nfrom = \"a\"\nfrom_port = 1\nto = \"b\"\nto_port = 1\ndelay = 500\n[[demand]]\nframe = 0x0100\nfrom = \"a\"\nto = [\"b\"]\nlength = 40\nupdate = 1000000\n";
 
 /// The file of device a: it sends frame 0x0100 at 0 by port 1.
-const FILE_A: [u8; 252] = [
+pub(crate) const FILE_A: [u8; 252] = [
     2, 3, 0, 52, 1, 2, 0, 0, 0, 0, 0, 0, 0, 0, 0, 0, 0, 0, 0, 0, 0, 0, 0, 1, 0, 0, 0, 0, 0, 0, 0,
     0, 0, 0, 3, 232, 0, 0, 0, 32, 0, 32, 0, 6, 0, 3, 0, 60, 0, 1, 1, 255, 3, 105, 114, 116, 2, 5,
     0, 192, 1, 1, 0, 0, 0, 0, 128, 0, 2, 6, 0, 36, 1, 1, 0, 0, 0, 0, 0, 0, 0, 0, 0, 0, 0, 0, 0, 0,
@@ -33,7 +33,7 @@ const TEXT_A: &[u8] =
     b"sync 1000 32 32 6\nglobal 3000 1\nport 1 100 200\nmode absolute\nframe 0x0100 0 40 1 1 0 0x02\nred 0x0100 0x06ff\nperiod 1 0 0 6720 6720 0 0 0\nphases 1 0/0 0/0 0/0 0/0 0/0 0/0 0/0 0/0 0/0 0/0 0/0 0/0 0/0 0/0 0/0 0/0\n";
 
 /// The file of device b: it receives the frame by port 1, in a period until 9520.
-fn file_b() -> [u8; 252] {
+pub(crate) fn file_b() -> [u8; 252] {
     let mut file = FILE_A;
     file[49] = 2;
     file[134] = 1;
@@ -56,6 +56,19 @@ fn changed(at: usize, byte: u8) -> [u8; 252]
     let mut file = FILE_A;
     file[at] = byte;
     file
+}
+
+/// The file of device a with the two frames 0x0100 and more, which stand in this order.
+fn two_frames(alloc: Global, first: u8, second: u8) -> Result<Vec<u8>, AllocError> {
+    let mut file = Vec::from_slice(alloc, &FILE_A[..131])?;
+    file[59] += 20;
+    file[111] += 20;
+    file.push(first)?;
+    file.extend_from_slice(&FILE_A[132..140])?;
+    file.extend_from_slice(&FILE_A[120..131])?;
+    file.push(second)?;
+    file.extend_from_slice(&FILE_A[132..])?;
+    Ok(file)
 }
 
 /// The words of a command.
@@ -85,9 +98,21 @@ fn expect<R: Abort + Threads + Sync>(
     status: u8,
     text: &[u8],
 ) -> Result<(), NoMemory> {
+    expect_on(rt, alloc, texts, &mut shelf, status, text)
+}
+
+/// The same over files that are looked at afterwards.
+pub(crate) fn expect_on<R: Abort + Threads + Sync>(
+    rt: &R,
+    alloc: Global,
+    texts: &[&str],
+    shelf: &mut MemShelf,
+    status: u8,
+    text: &[u8],
+) -> Result<(), NoMemory> {
     let words = words(alloc, texts)?;
     let mut sink = MemSink::new(alloc, 5, &[])?;
-    let got = irt_calm(rt, alloc, words.as_slice(), &mut shelf, &mut sink);
+    let got = irt_calm(rt, alloc, words.as_slice(), shelf, &mut sink);
     assert_eq!(rt; got.0, status, "{texts:?}");
     assert_eq!(rt; sink.bytes(), text, "{texts:?}");
     Ok(())
@@ -133,6 +158,7 @@ fn malformed_files(rt: HostRuntime) -> Result<(), Fail> {
     }
     for (at, byte, text) in [
         (6, 1, "malformed a.ird 6 BadPad\n"),
+        (52, 0, "malformed a.ird 52 BadValue\n"),
         (0, 9, "malformed a.ird 0 BadType\n"),
         (69, 7, "malformed a.ird 68 BadType\n"),
         (70, 1, "malformed a.ird 58 BadLength\n"),
@@ -141,6 +167,9 @@ fn malformed_files(rt: HostRuntime) -> Result<(), Fail> {
     }
     let mut long = Vec::from_slice(alloc, &FILE_A)?;
     long.push(0)?;
+    let swapped = two_frames(alloc, 1, 0)?;
+    let out_of_order = b"malformed a.ird 150 BadValue\n";
+    expect_check(&rt, alloc, swapped.as_slice(), 7, out_of_order)?;
     let trailing = b"malformed a.ird 252 Trailing\n";
     expect_check(&rt, alloc, long.as_slice(), 7, trailing)?;
     Ok(())
@@ -197,7 +226,8 @@ fn words_and_absent_files(rt: HostRuntime) -> Result<(), Fail> {
         (&["check", "-p"], 1, "usage\n"),
         (&["check", "--", "-p"], 3, "absent -p\n"),
         (&["check", "pair.toml", "x"], 1, "usage\n"),
-        (&["plan", "pair.toml"], 1, "usage\n"),
+        (&["plan", "pair.toml"], 3, "absent pair.toml\n"),
+        (&["sync", "pair.toml", "1", "1"], 1, "usage\n"),
     ] {
         let shelf = MemShelf::new(alloc, &[])?;
         expect(&rt, alloc, texts, shelf, status, text.as_bytes())?;

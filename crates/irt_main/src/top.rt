@@ -3,17 +3,20 @@
 ghost use Rattle.std.specs.Prelude.{◌≡◌, option_map};
 ghost use Rattle.irt_io.specs.Fault.{IsLater};
 ghost use Rattle.irt_steps.specs.Follow.{Follows, HasCause};
-ghost use Rattle.irt_words.specs.Asked.{texts_of};
+ghost use Rattle.irt_words.specs.Asked.{asked_of, texts_of};
 ghost use Rattle.irt_words.specs.Commands.{command_of};
-ghost use Rattle.irt_main.specs.Call.{call, FollowsSteps, TellsCause, HasEveryCause, IsSafeWhereAccepted, TellsUsage, TakesStated, TellsFaults, IsStatus};
-ghost use Rattle.irt_main.specs.Commands.{asked_steps, steps_of};
+ghost use Rattle.irt_main.specs.Call.{call, FollowsSteps, TellsCause, HasEveryCause, IsSafeWhereAccepted, StoresSafePlan, StoresInOrder, KeepsFiles, TellsUsage, TakesStated, TellsFaults, IsStatus};
+ghost use Rattle.irt_main.specs.Commands.{StoresFiles, asked_steps, steps_of};
 
 use crate::check::check;
 use crate::line::usage_line;
+use crate::plan::plan;
 use crate::show::show;
+use fit_rules::law::{first_fit_is_accepted, first_fit_is_one};
 use irt_base::numbers::Status;
 use irt_io::shelf::Shelf;
 use irt_io::sink::Sink;
+use irt_route::laws::parents_of_trees;
 use irt_steps::finish::finish;
 use irt_steps::line::line_stop;
 use irt_steps::stop::{Cause, Stop};
@@ -21,6 +24,7 @@ use irt_words::asked::Asked;
 use irt_words::law::stated_words_are_read;
 use irt_words::reading::read_words;
 use plan_rules::law::accepted_plans_are_safe;
+use plan_schedule::law::plan_texts_are_one;
 use std::alloc::Global;
 use std::thread::Threads;
 
@@ -50,10 +54,19 @@ pub fn irt_calm<R: Threads + Sync, S: Shelf, K: Sink>(
     // A fault of the shelf is one that it counted, and so is one of the sink.
     ensures faults { TellsFaults (call S.files S.faults K.taken K.faults words.now shelf.old shelf.new sink.old sink.new) result.0 }
     ensures status { IsStatus result.0 }
-    ensures kept { S.files shelf.new ≡ S.files shelf.old }
+    // What `plan` stores is first fit's plan, and safe over every world.
+    ensures stored { StoresSafePlan (call S.files S.faults K.taken K.faults words.now shelf.old shelf.new sink.old sink.new) result.0 }
+    // Whatever becomes of it, `plan` changes no file but those of the devices, one after the other.
+    ensures order { StoresInOrder (call S.files S.faults K.taken K.faults words.now shelf.old shelf.new sink.old sink.new) }
+    // Only `plan` changes files, and only where it isn't refused.
+    ensures kept { KeepsFiles (call S.files S.faults K.taken K.faults words.now shelf.old shelf.new sink.old sink.new) result.0 }
 {
     accepted_plans_are_safe();
     stated_words_are_read();
+    first_fit_is_accepted();
+    first_fit_is_one();
+    parents_of_trees();
+    plan_texts_are_one();
     let ended = run(alloc, words, shelf);
     finish(sink, ended)
 }
@@ -61,7 +74,7 @@ pub fn irt_calm<R: Threads + Sync, S: Shelf, K: Sink>(
 /// The steps of the words' command.
 fn run<S: Shelf>(alloc: Global, words: &[String], shelf: &mut S) -> Result<Vec<u8>, Stop>
     ensures step { Follows (λ v. v.items) (steps_of (texts_of words.now)) (S.files shelf.old) (S.files shelf.new) result }
-    ensures kept { S.files shelf.new ≡ S.files shelf.old }
+    ensures kept { ¬ StoresFiles (asked_of (texts_of words.now)) → S.files shelf.new ≡ S.files shelf.old }
     ensures cause { HasCause (S.faults shelf.old) (S.faults shelf.new) result }
     ensures later { IsLater (S.faults shelf.old) (S.faults shelf.new) }
 {
@@ -78,11 +91,12 @@ fn run_asked<S: Shelf>(
     shelf: &mut S,
 ) -> Result<Vec<u8>, Stop>
     ensures step { Follows (λ v. v.items) (asked_steps (option_map command_of asked.entry)) (S.files shelf.old) (S.files shelf.new) result }
-    ensures kept { S.files shelf.new ≡ S.files shelf.old }
+    ensures kept { ¬ StoresFiles (option_map command_of asked.entry) → S.files shelf.new ≡ S.files shelf.old }
     ensures cause { HasCause (S.faults shelf.old) (S.faults shelf.new) result }
     ensures later { IsLater (S.faults shelf.old) (S.faults shelf.new) }
 {
     match asked {
+        Some(Asked::Plan { plant }) => plan(alloc, shelf, plant),
         Some(Asked::Check { plant }) => check(alloc, shelf, plant),
         Some(Asked::Show { file }) => show(alloc, shelf, file),
         _ => Err(line_stop(Cause::Usage, usage_line(alloc))),

@@ -18,8 +18,10 @@ status_of causes.Usage = 1
 status_of causes.Absent = 3
 status_of causes.TooLong = 4
 status_of causes.Plant = 5
+status_of causes.NoWalk = 6
 status_of causes.Malformed = 7
 status_of causes.Reject = 8
+status_of causes.Overrun = 9
 
 -- A function ended, by what it returned seen by view, as the steps say.
 abbrev pub Follows : {A B : Type 0} → (A → B) → Steps B → Option Files → Option Files → Result A Stop → Type 0

@@ -14,10 +14,14 @@ pub enum Cause {
     TooLong,
     /// The plant breaks a rule.
     Plant,
+    /// No walk of links leads where one has to.
+    NoWalk,
     /// A device file is malformed.
     Malformed,
     /// The blocks break a check rule.
     Reject,
+    /// No plan has room for a frame.
+    Overrun,
 }
 
 impl Cause {
@@ -33,8 +37,10 @@ impl Cause {
             Cause::Absent => 3,
             Cause::TooLong => 4,
             Cause::Plant => 5,
+            Cause::NoWalk => 6,
             Cause::Malformed => 7,
             Cause::Reject => 8,
+            Cause::Overrun => 9,
         }
     }
 }
