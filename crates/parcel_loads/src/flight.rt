@@ -1,10 +1,13 @@
 //! Parcels on the way over links.
 
-ghost use Rattle.std.specs.Prelude.{◌≡◌, ◌∷◌, ◌++◌, ◌<◌, ◌≤◌, [], length, slice_get, IfOk};
+ghost use Rattle.std.specs.Prelude.{◌≡◌, ◌+◌, ◌∷◌, ◌++◌, ◌<◌, ◌≤◌, [], length, map, slice_get, IfOk};
 ghost use Rattle.std.specs.Option.{option_copied};
+ghost use Rattle.parcel_rules.specs.Cycle.{handed_on};
 
 use irt_base::memory::NoMemory;
+use irt_base::numbers::DevId;
 use parcel_rules::handed::Handed;
+use period_gate::parcels::Sent;
 use std::alloc::Global;
 use std::marker::Model;
 
@@ -57,6 +60,20 @@ impl Flight {
         ensures { self.new ≡ record self.old { handed = self.old.handed ++ handed ∷ [] } }
     {
         self.parcels.push_reserved(handed);
+    }
+
+    /// Puts last what a port's link brings to a device: all that the port at its other end sent, in the order of sending.
+    /// It takes no memory.
+    pub fn bring(&mut self, device: DevId, sent: &[Sent])
+        requires { length self.old.handed + length sent.now ≤ self.old.room }
+        ensures { self.new ≡ record self.old { handed = self.old.handed ++ map (handed_on device) sent.now } }
+    {
+        for one in sent {
+            self.push(Handed {
+                device,
+                parcel: one.parcel,
+            });
+        }
     }
 
     /// Takes all parcels out. The room stays.

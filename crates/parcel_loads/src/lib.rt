@@ -11,3 +11,6 @@ pub mod passing;
 pub mod room;
 pub mod rows;
 pub mod steps;
+
+#[cfg(test)]
+mod tests;
