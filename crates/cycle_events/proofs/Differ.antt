@@ -71,7 +71,7 @@ key_as play h Arrive r is = go (is_in_step play h.device.0) is
     go false is = name_key h (Missed play.cycle h.device h.frame) r (only_one (Missed play.cycle h.device h.frame) r is) (record { kind = omega arith; device = refl; at = refl })
 
 -- an event gives one row at most
-one_row : (play : Play) (h : Event) (what : What) → length (rows_as play h what) ≤ 1
+pub one_row : (play : Play) (h : Event) (what : What) → length (rows_as play h what) ≤ 1
 one_row play h Start = go (entry_at play.setup h.device.0 h.frame.0)
   where
     go : (o : Option Entry) → length (occupied play h o) ≤ 1

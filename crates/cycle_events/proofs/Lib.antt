@@ -10,3 +10,4 @@ pub mod Given
 pub mod Differ
 pub mod Segment
 pub mod Known
+pub mod Turns

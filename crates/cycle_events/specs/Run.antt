@@ -1,8 +1,9 @@
 -- The run of a cycle: events are taken out of those that wait, one after the other, and what they cause waits then.
-use Rattle.std.specs.Prelude.{◌≡◌, ℕ, ◌≤◌, ◌≤ℤ◌, List, [], ◌∷◌, ◌++◌, length, Some, slice_get, All, AllPairs, Contains, IsPermutation}
+use Rattle.std.specs.Prelude.{◌≡◌, ℕ, ◌+◌, ◌≤◌, ◌≤ℤ◌, List, [], ◌∷◌, ◌++◌, length, Some, slice_get, All, AllPairs, Contains, IsPermutation}
 use Rattle.std.specs.List.{count_by, flat_map}
 use Rattle.irt_base.specs.declared.blocks.Bundle.{Bundle}
 use Rattle.irt_base.specs.declared.plants.Plant.{Plant}
+use Rattle.plan_rules.specs.Network.{IsNearCycle}
 use Rattle.plan_rules.specs.Places.{IsAccepted}
 use Rattle.plan_rules.specs.Plan.{IsPlan, setup_of}
 use Rattle.plan_rules.specs.Way.{IsInRange}
@@ -82,3 +83,32 @@ abbrev pub RowsAreSegment : Play → Type 0
 RowsAreSegment play = (world : List WorldRow) → IsPlayIn play world → (first handled : List Event) → IsBegun play first →
     HasRun play first handled → (rows : List JournalRow) → IsPermutation (rows_given play handled) rows → AreInOrder rows →
     IsSegment play.setup world play.cycle rows
+
+-- ---- one turn of a run
+
+-- An event is taken out of those that wait.
+pub record IsTurn (play : Play) (first handled waiting : List Event) (e : Event) (rest : List Event) : Type 0 where
+  pub begun : IsBegun play first
+  pub running : IsRunning play first handled waiting
+  pub taken : IsPermutation waiting (e ∷ rest)
+
+-- It happens, near its cycle.
+pub record IsNearEvent (play : Play) (e : Event) : Type 0 where
+  pub happens : Happens play e
+  pub near : IsNearCycle play.setup.plant play.cycle e.at
+
+abbrev pub TurnsHappen : Play → Type 0
+TurnsHappen play = (first handled waiting rest : List Event) (e : Event) → IsTurn play first handled waiting e rest → IsNearEvent play e
+
+-- With it and what it causes, no more events are handled and wait than the plan has places.
+abbrev pub TurnsFit : Play → Type 0
+TurnsFit play = (first handled waiting rest : List Event) (e : Event) → IsTurn play first handled waiting e rest →
+    length handled + 1 + (length (causes play e) + length rest) ≤ length (places play.setup)
+
+-- It gives one row at most, which stands behind those given before.
+pub record GivesRow (play : Play) (handled : List Event) (e : Event) : Type 0 where
+  pub one : length (rows_of play e) ≤ 1
+  pub last : rows_given play (handled ++ e ∷ []) ≡ rows_given play handled ++ rows_of play e
+
+abbrev pub TurnsGiveRows : Play → Type 0
+TurnsGiveRows play = (handled : List Event) (e : Event) → GivesRow play handled e

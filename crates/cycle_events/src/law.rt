@@ -1,6 +1,6 @@
 //! The laws of a cycle's events, over accepted plans.
 
-ghost use Rattle.cycle_events.specs.Run.{CausesHappen, CausesFollow, ForPlays, RunsBegin, RunsGoOn, RunsAreShort, RowsDiffer, RowsAreSegment};
+ghost use Rattle.cycle_events.specs.Run.{CausesHappen, CausesFollow, ForPlays, RunsBegin, RunsGoOn, RunsAreShort, RowsDiffer, RowsAreSegment, TurnsFit, TurnsGiveRows, TurnsHappen};
 
 use plan_rules::law::{accepted_plans_are_safe, accepted_plans_can_be_played};
 use plan_rules::ways::ways_are_one;
@@ -20,6 +20,17 @@ pub fn runs_go_on()
     ensures begin { ForPlays RunsBegin }
     ensures goes_on { ForPlays RunsGoOn }
     ensures short { ForPlays RunsAreShort }
+{
+    accepted_plans_can_be_played();
+    ways_are_one();
+}
+
+/// An event that is taken out of those that wait happens, and its time is near the cycle. With it and what it causes no
+/// more events are handled and wait than the plan has places. It gives one row at most.
+pub fn turns_fit()
+    ensures happen { ForPlays TurnsHappen }
+    ensures fit { ForPlays TurnsFit }
+    ensures rows { ForPlays TurnsGiveRows }
 {
     accepted_plans_can_be_played();
     ways_are_one();
