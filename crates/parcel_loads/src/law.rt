@@ -18,5 +18,5 @@ pub fn passing_follows_the_rules()
         HoldsAsMany state t.«class» o.gates (step_at plant t.source (slice_index_or walks h.parcel.traffic []) h.device) →
         pass_on plant walks k o h (Some t)
         ≡ offers_after k t o h (step_at plant t.source (slice_index_or walks h.parcel.traffic []) h.device)
-            (passed_of state t (step_at plant t.source (slice_index_or walks h.parcel.traffic []) h.device) h) }
+        (passed_of state t (step_at plant t.source (slice_index_or walks h.parcel.traffic []) h.device) h) }
 {}

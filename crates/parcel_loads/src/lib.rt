@@ -11,6 +11,5 @@ pub mod passing;
 pub mod room;
 pub mod rows;
 pub mod steps;
-
 #[cfg(test)]
 mod tests;

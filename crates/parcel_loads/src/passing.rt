@@ -28,7 +28,12 @@ pub enum Passed {
 
 /// Hands a parcel over to the switch of its device. `t` is the parcel's traffic entry, and `steps` are those of the entry's
 /// walk.
-pub fn pass_on(switch: &mut Switch, t: &Traffic, steps: &[(DevId, PortNo)], handed: Handed) -> Passed
+pub fn pass_on(
+    switch: &mut Switch,
+    t: &Traffic,
+    steps: &[(DevId, PortNo)],
+    handed: Handed,
+) -> Passed
     requires { IfSome (find (leaves_from handed.device) steps.now) (λ at. HasPort switch.old.bundle at.1.0) }
     ensures passed { result ≡ passed_of switch.old t.now (find (leaves_from handed.device) steps.now) handed }
     ensures switch { switch.new ≡ after_passing switch.old t.now.«class» handed.parcel result }

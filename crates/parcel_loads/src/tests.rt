@@ -18,9 +18,21 @@ fn serials_go_on(rt: HostRuntime) -> Result<(), Fail> {
         every: 2,
         count: 3,
     };
-    for (k, due, serial) in [(0, true, 2), (1, false, 2), (2, true, 5), (10000, true, 15002)] {
+    for (k, due, serial) in [
+        (0, true, 2),
+        (1, false, 2),
+        (2, true, 5),
+        (10000, true, 15002),
+    ] {
         assert_eq!(rt; makes(&t, k), due);
-        assert_eq!(rt; made(&t, 7, k, 2).parcel, Parcel { traffic: 7, serial, length: 60 });
+        assert_eq!(rt;
+            made(&t, 7, k, 2).parcel,
+            Parcel {
+                traffic: 7,
+                serial,
+                length: 60
+            }
+        );
     }
     Ok(())
 }
@@ -29,7 +41,11 @@ fn serials_go_on(rt: HostRuntime) -> Result<(), Fail> {
 #[test]
 fn a_walk_goes_on(rt: HostRuntime) -> Result<(), Fail> {
     let steps = [(DevId(0), PortNo(1)), (DevId(1), PortNo(2))];
-    for (device, port, links) in [(0, Some(PortNo(1)), 2), (1, Some(PortNo(2)), 1), (2, None, 0)] {
+    for (device, port, links) in [
+        (0, Some(PortNo(1)), 2),
+        (1, Some(PortNo(2)), 1),
+        (2, None, 0),
+    ] {
         assert_eq!(rt; step_at(&steps, DevId(device)).map(|step| step.1), port);
         assert_eq!(rt; links_left(&steps, DevId(device)), links);
     }
@@ -52,7 +68,10 @@ fn links_bring_what_was_sent(rt: HostRuntime) -> Result<(), Fail> {
     let mut flight = Flight::new(rt.alloc(), 1)?;
     flight.bring(DevId(1), &sent);
     assert_eq!(rt; flight.len(), 1);
-    assert_eq!(rt; flight.get(0).map(|handed| (handed.device, handed.parcel)), Some((DevId(1), parcel)));
+    assert_eq!(rt;
+        flight.get(0).map(|handed| (handed.device, handed.parcel)),
+        Some((DevId(1), parcel))
+    );
     flight.clear();
     assert_eq!(rt; flight.len(), 0);
     Ok(())
