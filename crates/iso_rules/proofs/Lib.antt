@@ -4,4 +4,6 @@ pub mod Images
 pub mod Serving
 pub mod Recent
 pub mod Lockstepped
+pub mod PlayedRuns
+pub mod LegalRuns
 mod PairRun

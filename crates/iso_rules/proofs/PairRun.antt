@@ -27,7 +27,10 @@ use Rattle.plan_rules.specs.Way.{Setup, entry_at, Leaves, IsParent, IsLive, prov
 use Rattle.plan_rules.specs.World.{WorldRow, IsInStep, IsUncut}
 use Rattle.iso_rules.specs.Hold.{due_after, IsHeldFrom, IsHeldOf, IsRecent, AgreesInRecent}
 use Rattle.iso_rules.specs.Image.{loaded_words, IsPlannedCycle, IsImage, AreArrivals}
-use Rattle.iso_rules.specs.Lockstep.{new_runs, after_takes, after_cycle, words_of_runs, IsLockstep, begun, played, log_of, IsLockstepRecord}
+use Rattle.io_buffers.specs.Given.{Given}
+use Rattle.iso_rules.specs.Legal.{KeepsUp, IsLegal}
+use Rattle.iso_rules.proofs.LegalRuns.{lockstep_is_legal}
+use Rattle.iso_rules.specs.Lockstep.{new_runs, after_takes, after_cycle, words_of_runs, IsLockstep, begun, played, log_of, IsLockstepRecord, AppLog}
 use Rattle.iso_rules.specs.Turns.{AppRun}
 use Rattle.iso_rules.specs.declared.turn.Turn.{Turn}
 use Rattle.iso_rules.proofs.Holding.{due_past}
@@ -327,3 +330,13 @@ agrees = record { rows = rows; words = λ c app recent. refl }
 record_2 : IsLockstepRecord reply_of next_kind setup whole_world first_states (λ (rows : List ℕ). rows ≡ [])
     (record { apps = map log_of (after_cycle reply_of next_kind setup 1 image_1 runs_1); journal = [] })
 record_2 = record { runs = after_cycle reply_of next_kind setup 1 image_1 runs_1; played = played_2; apps = refl; journal = refl }
+
+-- it is legal
+legal_2 : IsLegal reply_of next_kind setup whole_world first_states (λ (rows : List ℕ). rows ≡ [])
+    (record { apps = map log_of (after_cycle reply_of next_kind setup 1 image_1 runs_1); journal = [] })
+legal_2 = lockstep_is_legal reply_of next_kind setup whole_world first_states (λ (rows : List ℕ). rows ≡ [])
+    (record { apps = map log_of (after_cycle reply_of next_kind setup 1 image_1 runs_1); journal = [] }) (omega arith) refl record_2
+
+-- no record is in which the zeros from the beginning are taken in cycle 9
+too_late : (cycles : ℕ) (log : AppLog) (g : Given) → slice_get log.takes 9 ≡ Some g → g.taken.number ≡ 0 → ¬ KeepsUp cycles log
+too_late cycles log g at zeros keeps = let within = keeps.opening 9 g at zeros in omega (arith, within)

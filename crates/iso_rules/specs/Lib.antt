@@ -3,3 +3,4 @@ pub mod Hold
 pub mod Image
 pub mod Turns
 pub mod Lockstep
+pub mod Legal

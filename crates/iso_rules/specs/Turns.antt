@@ -22,13 +22,13 @@ pub record AppRun (A : Type 0) : Type 0 where
 abbrev pub new_run : {A : Type 0} → ℕ → A → AppRun A
 new_run device state = record { device = device; state = state; takes = []; images = []; turns = [] }
 
--- the publications of its output exchange: number 0 is zeros, number N + 1 is what turn N put out
-abbrev pub output_publications : {A : Type 0} → Setup → AppRun A → List (List ℕ)
-output_publications setup run = replicate (output_count setup run.device) 0 ∷ map (λ (t : Turn). t.output) run.turns
+-- the publications of an app's output exchange: number 0 is zeros, number N + 1 is what turn N put out
+abbrev pub outputs_published : Setup → ℕ → List Turn → List (List ℕ)
+outputs_published setup device turns = replicate (output_count setup device) 0 ∷ map (λ (t : Turn). t.output) turns
 
 -- and of its input exchange: number 0 is zeros, number k + 1 is the image after cycle k
-abbrev pub input_publications : {A : Type 0} → Setup → AppRun A → List (List ℕ)
-input_publications setup run = replicate (input_count setup run.device) 0 ∷ run.images
+abbrev pub inputs_published : Setup → ℕ → List (List ℕ) → List (List ℕ)
+inputs_published setup device images = replicate (input_count setup device) 0 ∷ images
 
 -- A take of the newest publication, by a side that took the one before it last: it is fresh, but for number 0, which is
 -- held from the beginning.
@@ -38,7 +38,7 @@ newest_taken number = record { number = number; fresh = nat_lt 0 number; in_wind
 -- Cycle k takes publication k of the app's output.
 abbrev pub after_take : {A : Type 0} → Setup → ℕ → AppRun A → AppRun A
 after_take setup k run =
-    record run { takes = run.takes ++ given (newest_taken k) (publication (output_publications setup run) k) ∷ [] }
+    record run { takes = run.takes ++ given (newest_taken k) (publication (outputs_published setup run.device run.turns) k) ∷ [] }
 
 -- It publishes the image as the next publication of the app's input.
 abbrev pub after_image : {A : Type 0} → List ℕ → AppRun A → AppRun A
@@ -50,13 +50,13 @@ abbrev pub turn_after : {A : Type 0} → (A → List ℕ → ℕ → List ℕ) �
 turn_after reply setup k run = record {
   found = k + 1;
   taken = newest_taken (k + 1);
-  input = publication (input_publications setup run) (k + 1);
+  input = publication (inputs_published setup run.device run.images) (k + 1);
   output = sealed (output_lengths setup run.device)
-      (reply run.state (publication (input_publications setup run) (k + 1)) (output_count setup run.device));
+      (reply run.state (publication (inputs_published setup run.device run.images) (k + 1)) (output_count setup run.device));
 }
 
 abbrev pub after_turn : {A : Type 0} → (A → List ℕ → ℕ → List ℕ) → (A → List ℕ → ℕ → A) → Setup → ℕ → AppRun A → AppRun A
 after_turn reply next setup k run = record run {
-  state = next run.state (publication (input_publications setup run) (k + 1)) (output_count setup run.device);
+  state = next run.state (publication (inputs_published setup run.device run.images) (k + 1)) (output_count setup run.device);
   turns = run.turns ++ turn_after reply setup k run ∷ [];
 }

@@ -11,6 +11,7 @@ ghost use Rattle.irt_base.specs.declared.plants.Demand.{Demand};
 ghost use Rattle.irt_base.specs.declared.plants.Plant.{Plant};
 ghost use Rattle.iso_rules.specs.Hold.{due_after, IsHeldOf, AgreesInRecent};
 ghost use Rattle.iso_rules.specs.Image.{IsPlannedCycle, IsPart, IsImage, AreArrivals};
+ghost use Rattle.iso_rules.specs.Legal.{IsLegal};
 ghost use Rattle.iso_rules.specs.Lockstep.{IsLockstep, RunRecord, IsLockstepRecord};
 ghost use Rattle.iso_rules.specs.Station.{entries_at, provided_of, consumed_of};
 ghost use Rattle.iso_rules.specs.Turns.{AppRun};
@@ -93,3 +94,11 @@ pub fn lockstep_runs_are_one<A: IsoApp>()
 {
     journals_are_one();
 }
+
+/// The record of a lockstep run of one cycle or more is legal.
+pub fn lockstep_records_are_legal<A: IsoApp>()
+    ensures { (setup : Setup) (world : List WorldRow) (states : List A) (parcels : ℕ → List JournalRow)
+        (r : RunRecord JournalRow) → 1 ≤ length world → length states ≡ length setup.plant.apps →
+        IsLockstepRecord A.reply A.next_state setup world states (IsJournal setup world parcels (length world)) r →
+        IsLegal A.reply A.next_state setup world states (IsJournal setup world parcels (length world)) r }
+{}
