@@ -29,8 +29,9 @@ use plan_rules::law::accepted_plans_can_be_played;
 pub fn images_are_one()
     ensures cycles { (setup : Setup) (world : List WorldRow) (device k : ℕ) (e : Entry) (c d : ℕ) →
         IsPlannedCycle setup world device e k c → IsPlannedCycle setup world device e k d → c ≡ d }
-    ensures images { (setup : Setup) (world : List WorldRow) (taken : ℕ → ℕ → List ℕ) (device k : ℕ) (image other : List ℕ) →
-        IsImage setup world taken device k image → IsImage setup world taken device k other → image ≡ other }
+    ensures images { (setup : Setup) (world : List WorldRow) (taken : ℕ → ℕ → List ℕ) (device k : ℕ)
+        (image other : List ℕ) → IsImage setup world taken device k image →
+        IsImage setup world taken device k other → image ≡ other }
     ensures rising { (setup : Setup) (world : List WorldRow) (device k l : ℕ) (e : Entry) (c d : ℕ) → k ≤ l →
         IsPlannedCycle setup world device e k c → IsPlannedCycle setup world device e l d → c ≤ d }
 {}
@@ -63,8 +64,8 @@ pub fn held_arrivals_are_parts()
         IsHeldOf came e k part → IsPart setup world taken device k e part }
 {}
 
-/// On accepted plans the frames that a device consumes and provides by its entries are those that the plant's demands say,
-/// and they stand by ascending FrameID.
+/// On accepted plans the frames that a device consumes and provides by its entries are those that the plant's demands
+/// say, and they stand by ascending FrameID.
 pub fn stations_serve_demands()
     ensures consumed { (plant : Plant) (bundles : List Bundle) → IsPlan plant bundles → IsAccepted plant bundles →
         (device frame : ℕ) →
@@ -82,15 +83,17 @@ pub fn stations_serve_demands()
     accepted_plans_can_be_played();
 }
 
-/// The lockstep run of a plant is one, whatever its apps do, and it has one record, whatever the rows of parcels are.
+/// The lockstep run of a plant is one, whatever its apps do, and for given rows of parcels it has one record.
 pub fn lockstep_runs_are_one<A: IsoApp>()
-    ensures runs { (setup : Setup) (world : List WorldRow) (states : List A) (cycles : ℕ) (runs others : List (AppRun A)) →
+    ensures runs { (setup : Setup) (world : List WorldRow) (states : List A) (cycles : ℕ)
+        (runs others : List (AppRun A)) →
         IsLockstep A.reply A.next_state setup world states cycles runs →
         IsLockstep A.reply A.next_state setup world states cycles others → runs ≡ others }
     ensures records { (setup : Setup) (world : List WorldRow) (states : List A) (parcels : ℕ → List JournalRow)
         (r s : RunRecord JournalRow) →
         IsLockstepRecord A.reply A.next_state setup world states (IsJournal setup world parcels (length world)) r →
-        IsLockstepRecord A.reply A.next_state setup world states (IsJournal setup world parcels (length world)) s → r ≡ s }
+        IsLockstepRecord A.reply A.next_state setup world states (IsJournal setup world parcels (length world)) s →
+        r ≡ s }
 {
     journals_are_one();
 }
