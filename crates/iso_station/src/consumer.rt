@@ -28,8 +28,8 @@ pub enum Accept {
     Ignored,
 }
 
-/// The consumer of a device: what came of each frame that the device consumes. A clause sees this, the send clock factor,
-/// and the cycle that goes on.
+/// The consumer of a device: what came of each frame that the device consumes. A clause sees this, the send clock
+/// factor, and the cycle that goes on.
 #[derive(Drop, Debug)]
 pub struct Consumer {
     factor: u16,
@@ -75,7 +75,8 @@ impl Consumer {
         have_words(self.frames.as_slice(), count)
     }
 
-    /// Takes a frame that came in cycle `k`, the one that goes on. Of several frames of one FrameID the last one counts.
+    /// Takes a frame that came in cycle `k`, the one that goes on. Of several frames of one FrameID the last one
+    /// counts. It takes no memory.
     pub fn accept(&mut self, k: u32, frame: &[u8]) -> Accept
         requires cycle { k ≡ self.old.cycle }
         requires run { k < MAX_CYCLES }
@@ -108,8 +109,8 @@ impl Consumer {
         }
     }
 
-    /// Ends cycle `k`, the one that goes on, and writes the device's image: the words of all frames that it consumes, by
-    /// ascending FrameID. It takes no memory.
+    /// Ends cycle `k`, the one that goes on, and writes the device's image: the words of all frames that it consumes,
+    /// by ascending FrameID. It takes no memory.
     pub fn end_cycle(&mut self, k: u32, out: &mut [u64])
         requires cycle { k ≡ self.old.cycle }
         requires run { k < MAX_CYCLES }

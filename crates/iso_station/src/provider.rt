@@ -56,7 +56,8 @@ impl Provider {
     }
 
     /// Writes the provided frames that are due in cycle `k`, each at its place, with the words of the device's output.
-    /// `places` are the places in `frames` of all frames that the device provides, by ascending FrameID. It takes no memory.
+    /// `places` are the places in `frames` of all frames that the device provides, by ascending FrameID. It takes no
+    /// memory.
     pub fn load(&self, k: u32, words: &[u64], places: &[usize], frames: &mut Frames)
         requires run { k < MAX_CYCLES }
         requires words { length words.now ≡ words_in self.now.entries }
