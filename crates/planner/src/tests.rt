@@ -1,16 +1,17 @@
 //! Plans of generated plants.
 
+ghost use Rattle.std.specs.Prelude.{◌≤◌};
+ghost use Rattle.irt_base.specs.Valid.{IsWithin};
+ghost use Rattle.irt_base.specs.declared.limits.TheConstants.{MAX_DEVICES, MAX_DEMANDS};
+
 use crate::planning::plan;
 use irt_base::blocks::Bundle;
 use irt_route::routing::routes;
 use plant_gen::gen_plant;
+use std::alloc::Global;
 use std::test::Fail;
 
-/// Devices and frames of plants of seed 7, and the last end of what a port sends, in ns. Another program made the
-/// last one; in the first one a frame starts at 0.
-const PLANTS: [(u16, u16, u32); 2] = [(2, 1, 6720), (64, 256, 319654)];
-
-fn last_end(bundles: &[Bundle]) -> u32 {
+fn greatest_end(bundles: &[Bundle]) -> u32 {
     let mut end = 0;
     for bundle in bundles {
         for port in bundle.periods.ports.as_slice() {
@@ -22,15 +23,22 @@ fn last_end(bundles: &[Bundle]) -> u32 {
     end
 }
 
+/// The last end of what a port sends, in ns, in the plan of a generated plant.
+fn planned_end(alloc: Global, seed: u64, devices: u16, frames: u16) -> Result<u32, Fail>
+    requires devices { IsWithin 2 MAX_DEVICES devices }
+    requires frames { frames ≤ MAX_DEMANDS }
+{
+    let plant = gen_plant(alloc, seed, devices, frames)?;
+    let found = routes(alloc, &plant)?;
+    let bundles = plan(alloc, &plant, &found)?;
+    Ok(greatest_end(bundles.as_slice()))
+}
+
+/// One frame of 40 bytes starts at 0. The end of many frames was made by another program.
 #[test]
 fn plans_are_made(rt: HostRuntime) -> Result<(), Fail> {
     let alloc = rt.alloc();
-    for (devices, frames, end) in PLANTS {
-        let plant = gen_plant(alloc, 7, devices, frames)?;
-        let found = routes(alloc, &plant)?;
-        let bundles = plan(alloc, &plant, &found)?;
-        assert_eq!(rt; bundles.len(), usize::from(devices));
-        assert_eq!(rt; last_end(bundles.as_slice()), end, "{devices} devices");
-    }
+    assert_eq!(rt; planned_end(alloc, 7, 2, 1)?, 6720);
+    assert_eq!(rt; planned_end(alloc, 7, 64, 256)?, 319654);
     Ok(())
 }
