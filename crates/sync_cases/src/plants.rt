@@ -19,7 +19,8 @@ pub fn line_text(alloc: Global, names: &[&str], sync: [u32; 5]) -> Result<String
     }
     for ends in names.windows(2) {
         let link = format!(in alloc;
-            "[[link]]\nfrom = \"{}\"\nfrom_port = 2\nto = \"{}\"\nto_port = 1\ndelay = 500\n", ends[0], ends[1]
+            "[[link]]\nfrom = \"{}\"\nfrom_port = 2\nto = \"{}\"\nto_port = 1\ndelay = 500\n",
+            ends[0], ends[1]
         )?;
         text.push_str(link.as_str())?;
     }

@@ -1,3 +1,4 @@
+mod Accepted
 mod Bases
 mod Bounds
 mod Domains

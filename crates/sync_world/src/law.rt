@@ -1,9 +1,12 @@
 //! The laws of domains.
 
-ghost use Rattle.std.specs.Prelude.{ℕ, ◌*◌, ◌≤◌, ◌<◌, ◌↔◌, ◌≡◌, pos, length, true};
+ghost use Rattle.std.specs.Prelude.{ℕ, ◌*◌, ◌≤◌, ◌<◌, ◌↔◌, ◌≡◌, pos, length, true, List, Some, map, slice_get};
 ghost use Rattle.irt_base.specs.Cycle.{IsNear, budget_time};
+ghost use Rattle.irt_base.specs.declared.blocks.Bundle.{Bundle};
+ghost use Rattle.irt_base.specs.declared.plants.Clocks.TheVariants as clocks;
 ghost use Rattle.irt_base.specs.declared.plants.Plant.{Plant};
 ghost use Rattle.irt_route.specs.Clocks.{ClockTable, IsClockTreeOf};
+ghost use Rattle.plan_rules.specs.Places.{IsAccepted};
 ghost use Rattle.plan_rules.specs.World.{IsWithinWindow};
 ghost use Rattle.ptcp_core.specs.Clocks.{fresh_slave, state_of};
 ghost use Rattle.ptcp_core.specs.Honest.{after_all};
@@ -13,6 +16,7 @@ ghost use Rattle.sync_world.specs.Domain.{IsDomain, delay_of, walk_of};
 ghost use Rattle.sync_world.specs.Events.{AreInTurn, Deliveries, events_to};
 ghost use Rattle.sync_world.specs.Lines.{measured};
 ghost use Rattle.sync_world.specs.Report.{report_lines};
+ghost use Rattle.sync_world.specs.World.{HasBudgets};
 ghost use Rattle.sync_world.specs.declared.domain.Domain.{Domain};
 
 use irt_route::laws::{fronts_of_best_walks, parents_of_trees};
@@ -53,3 +57,13 @@ pub fn reports_are_one()
     fronts_of_best_walks();
     parents_of_trees();
 }
+
+/// In an accepted plan whose clocks are by PTCP each budget is at most the window, with the first device's send and
+/// each device's own timeout. So the worlds that PTCP makes of it fit, and a device is in step exactly where it isn't
+/// muted.
+pub fn accepted_plans_have_budgets()
+    ensures { (plant : Plant) (bundles : List Bundle) (tree : ClockTable) (first : Bundle) → IsClockTreeOf plant tree →
+        plant.clocks ≡ clocks.Ptcp → length bundles ≡ length plant.devices → slice_get bundles 0 ≡ Some first →
+        IsAccepted plant bundles →
+        HasBudgets plant tree first.sync.send (map (λ (b : Bundle). b.sync.timeout) bundles) }
+{}
