@@ -1,5 +1,5 @@
 -- A plant has one report.
-use Rattle.std.proofs.Common.{◌≡◌, ◌<◌, ◌≤◌, ◌+◌, ◌-◌, ◌==◌, inl, inr, ℕ, zero, suc, List, [], ◌∷◌, map, length, Option, Some, None, if◌then◌else◌, refl, sym, ◌∙◌, ap, ap₂, arith}
+use Rattle.std.proofs.Common.{◌≡◌, ◌<◌, ◌≤◌, ◌+◌, ◌-◌, ◌==◌, inl, inr, ℕ, zero, suc, List, [], ◌∷◌, map, length, Some, if◌then◌else◌, refl, sym, ◌∙◌, ap, ap₂, arith}
 use Rattle.std.specs.List.{range_with_len}
 use Rattle.std.proofs.lemmas.Bool.{cases_lt}
 use Rattle.irt_base.specs.Cycle.{budget_time}
@@ -7,7 +7,7 @@ use Rattle.irt_base.specs.Wiring.{peer_of}
 use Rattle.irt_base.specs.declared.numbers.DevId.{DevId}
 use Rattle.irt_base.specs.declared.numbers.PortNo.{PortNo}
 use Rattle.irt_base.specs.declared.plants.Plant.{Plant}
-use Rattle.irt_route.specs.Clocks.{ClockTable, IsClockTreeOf, IsDevice, clock_budget, clock_parent, hops_in}
+use Rattle.irt_route.specs.Clocks.{ClockTable, IsClockTreeOf, IsDevice, clock_parent, hops_in}
 use Rattle.irt_route.specs.Routes.{IsAmong}
 use Rattle.irt_route.specs.Trees.{IsTreeStep}
 use Rattle.irt_route.specs.Walks.{Peers, IsBestWalk}
@@ -18,7 +18,6 @@ use Rattle.sync_world.specs.Report.{muted_in, report_line, report_lines, worst_i
 use Rattle.sync_world.specs.declared.domain.ClockLine.{ClockLine}
 use Rattle.sync_world.specs.declared.domain.Domain.{Domain}
 use Rattle.sync_world.specs.declared.lines.TheConstants.{FIRST_EXCHANGES}
-use Rattle.sync_world.specs.declared.report.ReportLine.{ReportLine}
 use Rattle.sync_world.proofs.Domains.{domain_is}
 
 -- there is one best walk to a device, and in a tree of best walks a device has one parent
