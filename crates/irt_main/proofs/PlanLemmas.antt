@@ -1,12 +1,12 @@
 -- What `plan` came by, and what it stored.
-use Rattle.std.proofs.Common.{◌≡◌, ◌≢◌, ◌⊎◌, inl, inr, ℕ, zero, suc, ◌≤◌, List, [], ◌∷◌, ◌++◌, codes, length, Option, Some, None, Result, Ok, Err, Bool, true, false, cond, refl, sym, ◌∙◌, ap, subst, arith}
-use Rattle.std.specs.List.{All, AllByRecursion, IsDistinct}
+use Rattle.std.proofs.Common.{◌≡◌, ◌≢◌, inl, inr, ℕ, List, [], ◌∷◌, codes, length, Option, Some, None, Result, Ok, Err, true, false, cond, refl, sym, ◌∙◌, ap, subst, arith}
+use Rattle.std.specs.List.{AllByRecursion, IsDistinct}
 use Rattle.std.specs.Str.{bytes_eq}
 use Rattle.std.proofs.lemmas.Bool.{cases_Bool}
 use Rattle.std.proofs.lemmas.List.{append_cancel_right}
 use Rattle.std.proofs.lemmas.Slice.Eq.{bytes_eq-Decides}
 use Rattle.irt_base.specs.Valid.{IsBundle}
-use Rattle.irt_base.specs.declared.limits.TheConstants.{PLANT_FILE, DEVICE_FILE}
+use Rattle.irt_base.specs.declared.limits.TheConstants.{PLANT_FILE}
 use Rattle.irt_base.specs.declared.blocks.Bundle.{Bundle}
 use Rattle.irt_base.specs.declared.numbers.FrameId.{FrameId}
 use Rattle.irt_base.specs.declared.plants.Device.{Device}
@@ -14,14 +14,14 @@ use Rattle.irt_base.specs.declared.plants.Plant.{Plant}
 use Rattle.irt_bundle.specs.Bundles.{bundle_bytes}
 use Rattle.irt_io.specs.Files.{Files}
 use Rattle.irt_route.specs.declared.fault.RouteFault.{RouteFault}
-use Rattle.irt_steps.specs.Steps.{Ending, ending, Steps, gives, after, judged, missing, too_long, Holds, IsButFor, IsStored, IsUnloaded, Comes, LoadsNext}
+use Rattle.irt_steps.specs.Steps.{Ending, ending, after, missing, too_long, Holds, IsButFor, IsStored, IsUnloaded, Comes, LoadsNext}
 use Rattle.irt_steps.proofs.StepLemmas.{comes_by, read_by}
 use Rattle.irt_topo.specs.Reading.{plant_of}
 use Rattle.plant_rules.specs.Words.{same_name}
 use Rattle.plan_schedule.specs.Text.{IsPlanText}
-use Rattle.irt_main.specs.DeviceFiles.{device_file_of, store_steps, IsBundleFile, AreBundleFiles}
+use Rattle.irt_main.specs.DeviceFiles.{device_file_of, store_steps, AreBundleFiles}
 use Rattle.irt_main.specs.Lines.{overrun_line}
-use Rattle.irt_main.specs.Plan.{no_walk_line, IsNoWalk, OverrunsAt, ArePlanned, Planning, no_walk, overruns, planned, IsPlanning, planning_answer, planning_steps, text_steps, stored_steps, planned_steps, plan_steps}
+use Rattle.irt_main.specs.Plan.{no_walk_line, IsNoWalk, OverrunsAt, ArePlanned, no_walk, overruns, planned, text_steps, stored_steps, planned_steps, plan_steps}
 use Rattle.irt_main.specs.PlantFile.{plant_answer, plant_steps, IsPlantFile}
 use Rattle.irt_main.proofs.FileLemmas.{PlantStops, plant_file, plant_stops}
 use Rattle.irt_main.proofs.SpellingLemmas.{spelled_held}

@@ -1,6 +1,5 @@
 -- Planning a plant comes to one thing.
-use Rattle.std.proofs.Common.{◌≡◌, ◌≢◌, ◌<◌, ◌≤◌, ◌⊎◌, inl, inr, ℕ, List, [], ◌∷◌, ◌++◌, Option, Some, None, slice_get, refl, sym, ◌∙◌, ap, subst, append_assoc, arith}
-use Rattle.std.specs.Prelude.{Contains, slice_index_or}
+use Rattle.std.proofs.Common.{◌≡◌, ◌<◌, ◌≤◌, ◌⊎◌, inl, inr, ℕ, List, [], ◌∷◌, ◌++◌, Option, Some, None, refl, sym, ◌∙◌, ap, subst, append_assoc, arith}
 use Rattle.std.proofs.lemmas.Bool.{cases_order}
 use Rattle.irt_base.specs.Wiring.{peer_of}
 use Rattle.irt_base.specs.declared.blocks.Bundle.{Bundle}
@@ -10,18 +9,17 @@ use Rattle.irt_base.specs.declared.numbers.FrameId.{FrameId}
 use Rattle.irt_base.specs.declared.numbers.PortNo.{PortNo}
 use Rattle.irt_base.specs.declared.plants.Demand.{Demand}
 use Rattle.irt_base.specs.declared.plants.Plant.{Plant}
-use Rattle.irt_base.specs.declared.plants.Traffic.{Traffic}
 use Rattle.irt_route.proofs.TreeLaws.{walk_append}
-use Rattle.irt_route.specs.Routes.{RouteTables, IsRoutesOf, IsRouteFault, IsAmong, IsConsumer, IsUnreached}
+use Rattle.irt_route.specs.Routes.{RouteTables, IsRoutesOf, IsRouteFault, IsAmong}
 use Rattle.irt_route.specs.Trees.{Parents, parent_at, IsTreeParent, IsTreeStep, IsOnTree}
-use Rattle.irt_route.specs.Walks.{Peers, IsWalk, IsBestWalk}
+use Rattle.irt_route.specs.Walks.{Peers, IsBestWalk}
 use Rattle.irt_route.specs.declared.fault.RouteFault.{RouteFault}
 use Rattle.irt_route.specs.declared.fault.RouteFault.TheVariants as faults
 use Rattle.fit_rules.proofs.Lists.{place_of}
 use Rattle.fit_rules.specs.declared.frame_plan.FramePlan.{FramePlan}
 use Rattle.fit_rules.specs.Blocks.{AreFirstFit}
 use Rattle.fit_rules.specs.Fit.{IsInPhase, IsFirstFit, HasNoFit}
-use Rattle.fit_rules.specs.Order.{IsDemandAt, parents_of, IsPlacedAt, ArePlaced, IsFit, IsOverrun}
+use Rattle.fit_rules.specs.Order.{IsDemandAt, parents_of, IsPlacedAt, IsFit, IsOverrun}
 use Rattle.fit_rules.specs.Shape.{IsOn, IsSentBy, IsEntryOf, HasShape}
 use Rattle.plan_schedule.specs.Text.{IsPlanText}
 use Rattle.irt_main.specs.Plan.{IsNoWalk, OverrunsAt, ArePlanned, Planning, no_walk, overruns, planned, IsPlanning}

@@ -1,25 +1,22 @@
 -- How the steps of `plan` follow each other.
-use Rattle.std.proofs.Common.{◌≡◌, ◌<◌, ◌+◌, ◌⊎◌, ℕ, zero, suc, List, [], ◌∷◌, length, drop, get_or, slice_get, Option, Some, None, Result, Ok, Err, inl, inr, refl, sym, ◌∙◌, ap, subst, arith}
+use Rattle.std.proofs.Common.{◌≡◌, ◌<◌, ◌+◌, ℕ, zero, suc, List, [], ◌∷◌, length, drop, get_or, slice_get, Option, Some, Result, Ok, Err, inl, refl, sym, ◌∙◌, ap, subst, arith}
 use Rattle.std.proofs.lemmas.Option.{same_Some, slice_get-get_or}
 use Rattle.std.specs.Global.{Vec}
 use Rattle.std.specs.Prelude.{IfOk}
 use Rattle.irt_base.specs.declared.blocks.Bundle.{Bundle}
-use Rattle.irt_base.specs.declared.numbers.FrameId.{FrameId}
 use Rattle.irt_base.specs.declared.plants.Device.{Device}
 use Rattle.irt_base.specs.declared.plants.Plant.{Plant}
 use Rattle.irt_bundle.specs.Bundles.{bundle_bytes}
 use Rattle.fit_rules.specs.Blocks.{AreFirstFit}
-use Rattle.fit_rules.specs.Order.{IsOverrun}
 use Rattle.irt_io.specs.Files.{Files}
 use Rattle.irt_route.specs.Routes.{RouteTables, IsRoutesOf}
 use Rattle.irt_steps.specs.declared.stop.Cause.{Cause}
 use Rattle.irt_steps.specs.declared.stop.Stop.{Stop}
 use Rattle.irt_steps.specs.declared.stop.Stop.TheVariants as stops
 use Rattle.irt_steps.specs.Follow.{Follows, Decides, IsEnding, line_stop, status_of}
-use Rattle.irt_steps.specs.Steps.{Steps, Ending, ending, gives, stores}
+use Rattle.irt_steps.specs.Steps.{Steps, ending, gives, stores}
 use Rattle.irt_steps.proofs.StepLemmas.{follow_on, follow_stop}
 use Rattle.irt_main.specs.DeviceFiles.{device_file_of, store_steps}
-use Rattle.irt_main.specs.Lines.{overrun_line}
 use Rattle.irt_main.specs.Plan.{Planning, no_walk, overruns, planned, IsPlanning, planning_answer, planning_steps, text_steps, stored_steps}
 
 abbrev same : List Bundle → List Bundle

@@ -1,5 +1,5 @@
 -- The spellings of bundles fit a device's file.
-use Rattle.std.proofs.Common.{◌≡◌, ◌≤◌, ◌<◌, ◌+◌, ℕ, zero, suc, List, [], ◌∷◌, ◌++◌, length, replicate, lit<, Option, Some, length-append, arith}
+use Rattle.std.proofs.Common.{◌≤◌, ◌<◌, ◌+◌, ℕ, zero, suc, List, [], ◌∷◌, ◌++◌, length, replicate, lit<, Option, Some, length-append, arith}
 use Rattle.std.specs.Int.{byte_at, bytes_high_first}
 use Rattle.std.specs.List.{AllByRecursion, flat_map}
 use Rattle.irt_base.specs.Valid.{IsBundle, IsSyncBlock, IsGlobalBlock, IsDomainByte, AreBytes}

@@ -1,21 +1,20 @@
 -- What is stored of a plan, however `plan` ends.
-use Rattle.std.proofs.Common.{◌≡◌, ◌≢◌, ◌⊎◌, inl, inr, ℕ, zero, suc, ◌+◌, List, [], ◌∷◌, length, take, Option, Some, None, Result, Ok, Err, refl, sym, ◌∙◌, ap, subst, arith}
+use Rattle.std.proofs.Common.{◌≡◌, ◌≢◌, ◌⊎◌, inl, inr, ℕ, zero, suc, List, [], ◌∷◌, take, Option, Some, None, Result, Ok, Err, refl, sym, ◌∙◌, subst}
 use Rattle.std.specs.List.{AllByRecursion, IsDistinct}
 use Rattle.irt_base.specs.Valid.{IsBundle}
-use Rattle.irt_base.specs.declared.limits.TheConstants.{PLANT_FILE}
 use Rattle.irt_base.specs.declared.blocks.Bundle.{Bundle}
 use Rattle.irt_base.specs.declared.plants.Device.{Device}
 use Rattle.irt_base.specs.declared.plants.Plant.{Plant}
 use Rattle.irt_bundle.specs.Bundles.{bundle_bytes}
 use Rattle.irt_io.specs.Files.{Files}
-use Rattle.irt_steps.specs.Steps.{Ending, ending, Steps, gives, ends, loads, stores, asks, after, judged, IsButFor, IsStored, Holds, Comes, FailsAt, Halts}
-use Rattle.irt_topo.specs.Reading.{PlantRefusal, plant_of}
+use Rattle.irt_steps.specs.Steps.{Ending, Steps, gives, ends, loads, stores, asks, after, judged, IsButFor, IsStored, Holds, Comes, FailsAt, Halts}
+use Rattle.irt_topo.specs.Reading.{plant_of}
 use Rattle.plant_rules.specs.Words.{same_name}
-use Rattle.irt_main.specs.DeviceFiles.{device_file_of, store_steps, IsBundleFile, AreBundleFiles}
+use Rattle.irt_main.specs.DeviceFiles.{device_file_of, store_steps}
 use Rattle.irt_main.specs.Plan.{ArePlanned, no_walk, overruns, planned, text_steps, stored_steps, planned_steps, plan_steps, HoldsSame, AreStoredInOrder, IsPlanInOrder}
 use Rattle.irt_main.specs.PlantFile.{plant_answer, plant_steps, IsPlantFile}
 use Rattle.irt_main.proofs.FileLemmas.{plant_file}
-use Rattle.irt_main.proofs.PlanLemmas.{PlanCame, stopped, refused, overran, stored, plan_by, all_apart, still_held}
+use Rattle.irt_main.proofs.PlanLemmas.{PlanCame, stopped, refused, overran, stored, plan_by, all_apart}
 use Rattle.irt_main.proofs.SpellingLemmas.{spelled_held}
 
 -- ---- in which steps a shelf failed, and in which memory ran out
@@ -111,20 +110,20 @@ one_stored d b ds bs old mid new valid apart first more =
     }
 
 module _ (Ends : List Device → List Bundle → Option Files → Option Files → Type 0)
-  (at_end : (bundles : List Bundle) (old new : Option Files) → Ends [] bundles old new → new ≡ old)
-  (no_more : (d : Device) (ds : List Device) (old new : Option Files) → Ends (d ∷ ds) [] old new → new ≡ old)
-  (by_one : (d : Device) (ds : List Device) (b : Bundle) (bs : List Bundle) (old new : Option Files) → Ends (d ∷ ds) (b ∷ bs) old new →
-      IsButFor old new (device_file_of d.name) ⊎ ((mid : Option Files) × IsStored old mid (device_file_of d.name) (bundle_bytes b) × Ends ds bs mid new))
+    (at_end : (bundles : List Bundle) (old new : Option Files) → Ends [] bundles old new → new ≡ old)
+    (no_more : (d : Device) (ds : List Device) (old new : Option Files) → Ends (d ∷ ds) [] old new → new ≡ old)
+    (by_one : (d : Device) (ds : List Device) (b : Bundle) (bs : List Bundle) (old new : Option Files) → Ends (d ∷ ds) (b ∷ bs) old new →
+    IsButFor old new (device_file_of d.name) ⊎ ((mid : Option Files) × IsStored old mid (device_file_of d.name) (bundle_bytes b) × Ends ds bs mid new))
   where
-  in_order : (devices : List Device) (bundles : List Bundle) (old new : Option Files) → IsDistinct same_name devices → AllByRecursion IsBundle bundles → Ends devices bundles old new →
-      AreStoredInOrder old new devices bundles
-  unfolding IsDistinct
-  in_order [] bundles old new differ valid end = kept_stored [] bundles old new (at_end bundles old new end)
-  in_order (d ∷ ds) [] old new differ valid end = kept_stored (d ∷ ds) [] old new (no_more d ds old new end)
-  in_order (d ∷ ds) (b ∷ bs) old new differ valid end = elim (by_one d ds b bs old new end) [
-    | inl others ↦ none_stored (d ∷ ds) (b ∷ bs) old new (λ name differs. but_same old new (device_file_of d.name) name others differs.0)
-    | inr (mid, held, more) ↦ one_stored d b ds bs old mid new valid.0 (all_apart d ds differ.0) held (in_order ds bs mid new differ.1 valid.1 more)
-  ]
+    in_order : (devices : List Device) (bundles : List Bundle) (old new : Option Files) → IsDistinct same_name devices → AllByRecursion IsBundle bundles → Ends devices bundles old new →
+        AreStoredInOrder old new devices bundles
+    unfolding IsDistinct
+    in_order [] bundles old new differ valid end = kept_stored [] bundles old new (at_end bundles old new end)
+    in_order (d ∷ ds) [] old new differ valid end = kept_stored (d ∷ ds) [] old new (no_more d ds old new end)
+    in_order (d ∷ ds) (b ∷ bs) old new differ valid end = elim (by_one d ds b bs old new end) [
+      | inl others ↦ none_stored (d ∷ ds) (b ∷ bs) old new (λ name differs. but_same old new (device_file_of d.name) name others differs.0)
+      | inr (mid, held, more) ↦ one_stored d b ds bs old mid new valid.0 (all_apart d ds differ.0) held (in_order ds bs mid new differ.1 valid.1 more)
+    ]
 
 -- all were stored, or the shelf failed at one, or memory ran out
 came_in_order : (devices : List Device) (bundles : List Bundle) (old new : Option Files) → IsDistinct same_name devices → AllByRecursion IsBundle bundles →

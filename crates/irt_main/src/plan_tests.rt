@@ -102,7 +102,8 @@ const DRIVES: Sample<'static> = Sample {
 
 const LINE_TEXT: &str = "0x0100 1 1 14320\n0x0101 1 1 21040\nred 19240\n";
 
-const DRIVES_TEXT: &str = "0x0100 1 1 55560\n0x0101 1 1 54640\n0x0102 1 1 53720\n0x0103 1 1 52800\n0x0104 1 1 51880\n0x0105 1 1 50960\n0x0106 1 1 50040\n0x0107 1 1 49120\n0x0108 1 1 76000\n0x0109 1 1 14320\n0x010a 1 1 69280\n0x010b 1 1 25920\n0x010c 1 1 62560\n0x010d 1 1 37520\n0x010e 1 1 55840\n0x010f 1 1 49120\nred 74200\n";
+const DRIVES_TEXT: &str =
+    "0x0100 1 1 55560\n0x0101 1 1 54640\n0x0102 1 1 53720\n0x0103 1 1 52800\n0x0104 1 1 51880\n0x0105 1 1 50960\n0x0106 1 1 50040\n0x0107 1 1 49120\n0x0108 1 1 76000\n0x0109 1 1 14320\n0x010a 1 1 69280\n0x010b 1 1 25920\n0x010c 1 1 62560\n0x010d 1 1 37520\n0x010e 1 1 55840\n0x010f 1 1 49120\nred 74200\n";
 
 /// A parcel in each cycle.
 const PARCEL: &str =
@@ -111,9 +112,13 @@ const PARCEL: &str =
 /// The file of a plant.
 fn plant_text(alloc: Global, sample: &Sample<'_>) -> Result<String, AllocError> {
     let Sample {
-        red_max, clocks, ..
+        red_max,
+        clocks,
+        ..
     } = *sample;
-    let mut text = format!(in alloc; "factor = 32\nwindow = 1000\nred_max = {red_max}\norange = 0\n{clocks}\n")?;
+    let mut text = format!(in alloc;
+        "factor = 32\nwindow = 1000\nred_max = {red_max}\norange = 0\n{clocks}\n"
+    )?;
     put_devices(alloc, &mut text, sample)?;
     put_links(alloc, &mut text, sample)?;
     put_demands(alloc, &mut text, sample)?;
@@ -128,18 +133,18 @@ fn put_devices(alloc: Global, text: &mut String, sample: &Sample<'_>) -> Result<
         } else {
             "[100, 200], [100, 200]"
         };
-        text.push_str(
-            format!(in alloc; "[[device]]\nname = \"{name}\"\nmode = \"{mode}\"\nbmin = 1000\nbmax = 3000\nports = [{port}]\n")?.as_str(),
-        )?;
+        text.push_str(format!(in alloc;
+            "[[device]]\nname = \"{name}\"\nmode = \"{mode}\"\nbmin = 1000\nbmax = 3000\nports = [{port}]\n"
+        )?.as_str())?;
     }
     Ok(())
 }
 
 fn put_links(alloc: Global, text: &mut String, sample: &Sample<'_>) -> Result<(), AllocError> {
     for (from, from_port, to, to_port) in sample.links {
-        text.push_str(
-            format!(in alloc; "[[link]]\nfrom = \"{from}\"\nfrom_port = {from_port}\nto = \"{to}\"\nto_port = {to_port}\ndelay = 500\n")?.as_str(),
-        )?;
+        text.push_str(format!(in alloc;
+            "[[link]]\nfrom = \"{from}\"\nfrom_port = {from_port}\nto = \"{to}\"\nto_port = {to_port}\ndelay = 500\n"
+        )?.as_str())?;
     }
     Ok(())
 }
@@ -147,12 +152,36 @@ fn put_links(alloc: Global, text: &mut String, sample: &Sample<'_>) -> Result<()
 fn put_demands(alloc: Global, text: &mut String, sample: &Sample<'_>) -> Result<(), AllocError> {
     let length = sample.length;
     for (number, (from, to)) in sample.demands.iter().enumerate() {
-        text.push_str(
-            format!(in alloc; "[[demand]]\nframe = {}\nfrom = \"{from}\"\nto = [\"{to}\"]\nlength = {length}\nupdate = 1000000\n", 256 + number % 256)?.as_str(),
-        )?;
+        text.push_str(format!(in alloc;
+            "[[demand]]\nframe = {}\nfrom = \"{from}\"\nto = [\"{to}\"]\nlength = {length}\nupdate = 1000000\n",
+            256 + number % 256
+        )?
+        .as_str())?;
     }
     Ok(())
 }
+
+/// Two devices with no link, and a frame or a parcel from one to the other.
+const APART: Sample<'static> = Sample { links: &[], ..PAIR };
+
+const CUT_PARCEL: Sample<'static> = Sample {
+    demands: &[],
+    rest: PARCEL,
+    ..APART
+};
+
+/// Two frames where there is room for one.
+const NARROW: Sample<'static> = Sample {
+    red_max: 12000,
+    demands: &[("a", "b"), ("a", "b")],
+    ..PAIR
+};
+
+/// A frame with a byte more than any may have.
+const LONG: Sample<'static> = Sample {
+    length: 1441,
+    ..PAIR
+};
 
 /// A shelf with a plant, and with files that hold something else, whose calls of these numbers fail.
 fn shelf_of(alloc: Global, sample: &Sample<'_>, fails: &[u32]) -> Result<MemShelf, Fail> {
@@ -173,10 +202,7 @@ fn plans_that_are_accepted(rt: HostRuntime) -> Result<(), Fail> {
     };
     for (sample, text) in [
         (LINE, LINE_TEXT),
-        (
-            RELATIVE,
-            "0x0100 1 1 12320\n0x0101 1 1 21040\nred 21240\n",
-        ),
+        (RELATIVE, "0x0100 1 1 12320\n0x0101 1 1 21040\nred 21240\n"),
         (long, "0x0100 1 1 120520\nred 118720\n"),
         (DRIVES, DRIVES_TEXT),
     ] {
@@ -204,26 +230,11 @@ fn files_of_the_pair(rt: HostRuntime) -> Result<(), Fail> {
 #[test]
 fn plants_without_a_plan(rt: HostRuntime) -> Result<(), Fail> {
     let alloc = rt.alloc();
-    let apart = Sample { links: &[], ..PAIR };
-    let parcel = Sample {
-        demands: &[],
-        rest: PARCEL,
-        ..apart
-    };
-    let narrow = Sample {
-        red_max: 12000,
-        demands: &[("a", "b"), ("a", "b")],
-        ..PAIR
-    };
-    let long = Sample {
-        length: 1441,
-        ..PAIR
-    };
     for (sample, status, text) in [
-        (apart, 6, "unreachable 0x0100 b\n"),
-        (parcel, 6, "no path 0\n"),
-        (narrow, 9, "overrun 0x0101\n"),
-        (long, 5, "plant P13 0\n"),
+        (APART, 6, "unreachable 0x0100 b\n"),
+        (CUT_PARCEL, 6, "no path 0\n"),
+        (NARROW, 9, "overrun 0x0101\n"),
+        (LONG, 5, "plant P13 0\n"),
     ] {
         let mut shelf = shelf_of(alloc, &sample, &[])?;
         let plan = ["plan", "p.toml"];
