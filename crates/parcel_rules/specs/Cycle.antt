@@ -34,8 +34,8 @@ all_ports plant = flat_map (λ (d : ℕ × Device). ports_at d.0 d.1) (enumerate
 
 -- ---- sending
 
--- The gate of a port in a cycle, with the port's own Tx period and the limit of its device's blocks. There is none where
--- the blocks have no such port.
+-- The gate of a port in a cycle, with the port's own Tx period and the limit of its device's blocks. There is none
+-- where the blocks have no such port.
 abbrev pub begun_at : List Bundle → ℕ → Step → Waiting → Option Waiting
 begun_at bundles k at gate =
     option_and_then

@@ -52,8 +52,8 @@ abbrev pub rows_before : Plant → List Bundle → List (List PortNo) → List W
 rows_before plant bundles walks world cycles =
     flat_map (parcel_rows plant bundles walks world) (range_with_len 0 cycles)
 
--- After so many cycles a parcel that was made, once, waits at a port, is on the way over a link, was refused, was lost or
--- has come: one of these and once. A parcel that was not made does none of it.
+-- After so many cycles a parcel that was made, once, waits at a port, is on the way over a link, was refused, was
+-- lost or has come: one of these and once. A parcel that was not made does none of it.
 pub record HasOneFate (plant : Plant) (bundles : List Bundle) (walks : List (List PortNo)) (world : List WorldRow) (cycles traffic serial : ℕ) : Type 0 where
   pub once : handed_count traffic serial (made_before plant cycles) ≤ 1
   pub one : waiting_count plant traffic serial (loads_at plant bundles walks world cycles).gates

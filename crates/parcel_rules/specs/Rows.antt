@@ -54,8 +54,8 @@ rows_in plant bundles walks k loads (Some row) = rows_after plant bundles row k 
 -- Those of a cycle. A world has no more cycles than rows.
 --
 -- Two devices a and b are linked, port 1 to port 1. Orange begins at 6720 ns at a and green at 106720, in cycles of
--- 1000000 ns with a window of 1000. Traffic makes two green parcels of 60 bytes a cycle at a, which go to b. Errors are
--- 0. Each parcel takes (60 + 24) * 80 = 6720 ns. Cycle 0 has the rows
+-- 1000000 ns with a window of 1000. Traffic makes two green parcels of 60 bytes a cycle at a, which go to b. Errors
+-- are 0. Each parcel takes (60 + 24) * 80 = 6720 ns. Cycle 0 has the rows
 --     Sent 0 a 1, traffic 0, serial 0, from 106720 until 113440
 --     Sent 0 a 1, traffic 0, serial 1, from 113440 until 120160
 -- and cycle 1 two such with the serials 2 and 3, from 1106720 on, and

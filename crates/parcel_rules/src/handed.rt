@@ -3,8 +3,8 @@
 use irt_base::numbers::DevId;
 use period_gate::parcels::Parcel;
 
-/// A parcel that is handed over to a device at the beginning of a cycle: to its source, where it was made, or to the device
-/// to which a link has brought it.
+/// A parcel that is handed over to a device at the beginning of a cycle: to its source, where it was made, or to the
+/// device to which a link has brought it.
 #[derive(Clone, Copy, Debug, PartialEq, Eq)]
 pub struct Handed {
     pub device: DevId,

@@ -31,10 +31,10 @@ ghost use Rattle.parcel_rules.specs.Rows.{parcel_rows};
 use cycle_rows::law::journals_of_accepted_plans_are_safe;
 use period_gate::sent_list::cycle_law;
 
-/// Over accepted plans and any world, and whatever walks the parcels take: each parcel is sent in a stretch of true time
-/// that its port leaves to parcels, and of two parcels of a port one is off the wire before the other starts. So in the
-/// journal of any number of cycles, where bridge delays are in their ranges, no link direction is used by two at once,
-/// be they frames or parcels, and each due frame is sent and delivered as it has to be.
+/// Over accepted plans and any world, and whatever walks the parcels take: each parcel is sent in a stretch of true
+/// time that its port leaves to parcels, and of two parcels of a port one is off the wire before the other starts. So
+/// in the journal of any number of cycles, where bridge delays are in their ranges, no link direction is used by two
+/// at once, be they frames or parcels, and each due frame is sent and delivered as it has to be.
 pub fn parcels_of_accepted_plans_are_apart()
     ensures rows { (plant : Plant) (bundles : List Bundle) → IsPlan plant bundles → IsAccepted plant bundles →
         (walks : List (List PortNo)) (world : List WorldRow) (k : ℕ) →
@@ -49,9 +49,9 @@ pub fn parcels_of_accepted_plans_are_apart()
     journals_of_accepted_plans_are_safe();
 }
 
-/// On a plant that meets its rules, where each traffic entry has its shortest walk: after any number of the world's cycles
-/// each parcel that was made waits at a port, is on the way over a link, was refused, was lost or has come: one of these,
-/// and once. Nothing else is, and no two parcels are made with one serial of an entry.
+/// On a plant that meets its rules, where each traffic entry has its shortest walk: after any number of the world's
+/// cycles each parcel that was made waits at a port, is on the way over a link, was refused, was lost or has come:
+/// one of these, and once. Nothing else is, and no two parcels are made with one serial of an entry.
 pub fn parcels_have_one_fate()
     ensures { (plant : Plant) (bundles : List Bundle) → MeetsRules plant →
         (walks : List (List PortNo)) → AreTrafficWalks (peer_of plant) plant.traffic walks →
@@ -61,9 +61,9 @@ pub fn parcels_have_one_fate()
     cycle_law();
 }
 
-/// How many rows of the journal parcels need. A cycle may have more of them than what is made in it ever gets, since queues
-/// that have waited drain at once. But its rows are taken from those that parcels may still get, which what is made in a
-/// cycle raises by at most `most_rows`, and which are none before the first cycle.
+/// How many rows of the journal parcels need. A cycle may have more of them than what is made in it ever gets, since
+/// queues that have waited drain at once. But its rows are taken from those that parcels may still get, which what is
+/// made in a cycle raises by at most `most_rows`, and which are none before the first cycle.
 pub fn parcels_keep_to_their_room()
     ensures cycle { (plant : Plant) (bundles : List Bundle) → MeetsRules plant →
         (walks : List (List PortNo)) → AreTrafficWalks (peer_of plant) plant.traffic walks →
@@ -76,8 +76,8 @@ pub fn parcels_keep_to_their_room()
     cycle_law();
 }
 
-/// The gates of the ports as the cycles go by. The period of a cycle changes no queue: so offers, and what is sent, leave
-/// the same queues whether the cycle was begun before or after.
+/// The gates of the ports as the cycles go by. The period of a cycle changes no queue: so offers, and what is sent,
+/// leave the same queues whether the cycle was begun before or after.
 pub fn gates_keep_their_queues()
     ensures offered { (b : Bundle) (tx : Period) (kind : Class) (parcel : Parcel) (gate : Waiting) →
         with_last kind parcel (begun_gate b tx gate) ≡ begun_gate b tx (with_last kind parcel gate) }
