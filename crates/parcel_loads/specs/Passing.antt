@@ -1,5 +1,5 @@
 -- What a device does with a parcel that is handed over to it.
-use Rattle.std.specs.Prelude.{ℕ, ◌==◌, if◌then◌else◌, length, Option, Some, None}
+use Rattle.std.specs.Prelude.{◌==◌, if◌then◌else◌, length, Option, Some, None}
 use Rattle.irt_base.specs.declared.plants.Class.{Class}
 use Rattle.irt_base.specs.declared.plants.Traffic.{Traffic}
 use Rattle.period_gate.specs.declared.parcels.Parcel.{Parcel}

@@ -1,5 +1,5 @@
 use Rattle.parcel_rules.specs.Steps.{leaves_from}
-use Rattle.std.proofs.Common.{find, sym, ◌∙◌}
+use Rattle.std.proofs.Common.{find}
 use Rattle.parcel_loads.proofs.Passings.{passed_on}
 use Rattle.parcel_loads.proofs.passing.pass_on.Goals as goal
 

@@ -1,4 +1,4 @@
-use Rattle.std.proofs.Common.{◌≡◌, ◌≤◌, drop, length}
+use Rattle.std.proofs.Common.{◌≡◌, drop}
 use Rattle.parcel_rules.specs.Room.{links_left}
 use Rattle.parcel_loads.proofs.room.links_left.Given as goal
 
