@@ -31,6 +31,7 @@ use Rattle.irt_main.proofs.OneLemmas.{asked_one}
 use Rattle.irt_main.proofs.OutcomeLemmas.{cause_outcome, nothing_steps}
 use Rattle.irt_main.proofs.PlanLemmas.{PlanCame, stopped, refused, overran, stored, plan_by, refused_kept, stored_files, stops_status}
 use Rattle.irt_main.proofs.PlanOne.{TreeLaws, FitLaws, TextLaw}
+use Rattle.irt_main.proofs.SyncLemmas.{ReportLaw}
 use Rattle.irt_main.proofs.StoreOrder.{ValidLaw, comes_order, fails_order, halts_order}
 
 -- ---- causes
@@ -51,11 +52,13 @@ cause_status files words _ (causes.too_long name limit next over) = calls.too_lo
 cause_status files words _ (causes.no_plant name refusal is file) = calls.plant
 cause_status files words _ (causes.malformed name fault next bad) = calls.malformed
 cause_status files words _ (causes.no_walk name plant fault is file holds) = calls.no_walk
+cause_status files words _ (causes.no_clock name cycles seed plant device is file holds) = calls.no_walk
 cause_status files words _ (causes.rejects name plant reject is file) = calls.reject
 cause_status files words _ (causes.overruns name plant frame is file holds) = calls.overrun
 cause_status files words _ (causes.plans name plant bundles text is file are so) = calls.done
 cause_status files words _ (causes.accepts name is file) = calls.done
 cause_status files words _ (causes.shows name bundle is file) = calls.done
+cause_status files words _ (causes.reports name cycles seed plant text is file holds) = calls.done
 
 pub has_status : (c : Call) (status : ℕ) → TellsCause c status → IsStatus status
 has_status c status (inl faulty) = calls.faulty faulty
@@ -70,13 +73,13 @@ its_or_faulty : (status its : ℕ) → (status ≡ its) ⊎ (status ≡ 2) ⊎ (
 its_or_faulty status its (inl is) = inl is
 its_or_faulty status its (inr faults) = inr (faults_of status faults)
 
-pub has_every_cause : TreeLaws → FitLaws → TextLaw → (c : Call) (status : ℕ) → FollowsSteps c status → HasEveryCause c status
-has_every_cause trees fits texts c status follows files e told cause =
+pub has_every_cause : TreeLaws → FitLaws → TextLaw → ReportLaw → (c : Call) (status : ℕ) → FollowsSteps c status → HasEveryCause c status
+has_every_cause trees fits texts reports c status follows files e told cause =
     let over : EndsAs (steps_of c.words) c.shelf c.sink (Some files) c.files_after c.taken c.taken_after status =
     subst (λ f. EndsAs (steps_of c.words) c.shelf c.sink f c.files_after c.taken c.taken_after status) told follows in
     let (end, is) = cause_outcome (Some files) c.words e cause in
     its_or_faulty status e.status
-    (exact_of (steps_of c.words) c.shelf c.sink files c.files_after c.taken c.taken_after status over (asked_one trees fits texts (asked_of c.words)) e end is)
+    (exact_of (steps_of c.words) c.shelf c.sink files c.files_after c.taken c.taken_after status over (asked_one trees fits texts reports (asked_of c.words)) e end is)
 
 -- ---- a plan that is accepted
 
@@ -118,6 +121,7 @@ cause_safe law files words _ name (causes.too_long at limit next over) zero aske
 cause_safe law files words _ name (causes.no_plant at refusal is file) zero asked = absurd cc
 cause_safe law files words _ name (causes.malformed at fault next bad) zero asked = absurd cc
 cause_safe law files words _ name (causes.no_walk at plant fault is file holds) zero asked = absurd cc
+cause_safe law files words _ name (causes.no_clock at cycles seed plant device is file holds) zero asked = absurd cc
 cause_safe law files words _ name (causes.rejects at plant reject is file) zero asked = absurd cc
 cause_safe law files words _ name (causes.overruns at plant frame is file holds) zero asked = absurd cc
 cause_safe law files words _ name (causes.plans at plant bundles text is file are so) zero asked = absurd (other at name (sym is ∙ asked))
@@ -129,6 +133,10 @@ cause_safe law files words _ name (causes.shows at bundle is file) zero asked = 
   where
     other : (a b : List ℕ) → Some (show a) ≡ some_check b → ⊥
     other a b same = absurd cc
+cause_safe law files words _ name (causes.reports at cycles seed plant text is file holds) zero asked = absurd (other at cycles seed name (sym is ∙ asked))
+  where
+    other : (a : List ℕ) (c s : ℕ) (b : List ℕ) → Some (sync a c s) ≡ some_check b → ⊥
+    other a c s b same = absurd cc
 
 not_faulty : (n : ℕ) → IsFaulty n → (n ≡ 0) ⊎ (n ≡ 1) → ⊥
 not_faulty _ calls.shelf_fault (inl is) = absurd cc
@@ -251,9 +259,11 @@ cause_usage files words _ (causes.malformed name fault next bad) one = absurd cc
 cause_usage files words _ (causes.no_walk name plant fault is file holds) one = absurd cc
 cause_usage files words _ (causes.overruns name plant frame is file holds) one = absurd cc
 cause_usage files words _ (causes.plans name plant bundles text is file are so) one = absurd cc
+cause_usage files words _ (causes.no_clock name cycles seed plant device is file holds) one = absurd cc
 cause_usage files words _ (causes.rejects name plant reject is file) one = absurd cc
 cause_usage files words _ (causes.accepts name is file) one = absurd cc
 cause_usage files words _ (causes.shows name bundle is file) one = absurd cc
+cause_usage files words _ (causes.reports name cycles seed plant text is file holds) one = absurd cc
 
 usage_of : (c : Call) (status : ℕ) → TellsCause c status → status ≡ 1 → IsUsage c.words
 usage_of c status (inl faulty) one = absurd (not_faulty status faulty (inr one))
@@ -284,9 +294,11 @@ cause_plain files words _ (causes.malformed name fault next bad) = ((λ so. absu
 cause_plain files words _ (causes.no_walk name plant fault is file holds) = ((λ so. absurd cc), λ so. absurd cc)
 cause_plain files words _ (causes.overruns name plant frame is file holds) = ((λ so. absurd cc), λ so. absurd cc)
 cause_plain files words _ (causes.plans name plant bundles text is file are so) = ((λ so. absurd cc), λ so. absurd cc)
+cause_plain files words _ (causes.no_clock name cycles seed plant device is file holds) = ((λ so. absurd cc), λ so. absurd cc)
 cause_plain files words _ (causes.rejects name plant reject is file) = ((λ so. absurd cc), λ so. absurd cc)
 cause_plain files words _ (causes.accepts name is file) = ((λ so. absurd cc), λ so. absurd cc)
 cause_plain files words _ (causes.shows name bundle is file) = ((λ so. absurd cc), λ so. absurd cc)
+cause_plain files words _ (causes.reports name cycles seed plant text is file holds) = ((λ so. absurd cc), λ so. absurd cc)
 
 pub tells_faults : (c : Call) (status : ℕ) → FollowsSteps c status → TellsFaults c status
 tells_faults c status follows = (shelf c status follows, sink c status follows)

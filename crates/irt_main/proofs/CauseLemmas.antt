@@ -19,6 +19,8 @@ use Rattle.irt_main.specs.PlantFile.{plant_steps}
 use Rattle.irt_main.specs.Show.{show_steps}
 use Rattle.irt_main.proofs.FileLemmas.{PlantStops, StopsAt, plant_file, plant_stops, bundle_file, bundle_stops, bundle_next, bundles_ok, bundles_stop}
 use Rattle.irt_main.proofs.PlanLemmas.{PlanCame, stopped, refused, overran, stored, plan_by}
+use Rattle.irt_main.proofs.SyncLemmas as syncs
+use Rattle.irt_main.proofs.SyncLemmas.{SyncCame, sync_by}
 
 abbrev Answer : Type 0
 Answer = Result (List ℕ) Ending
@@ -82,6 +84,15 @@ plan_came_cause files new words name _ is (refused p fault kept file holds) = ca
 plan_came_cause files new words name _ is (overran p frame kept file holds) = causes.overruns name p frame is file holds
 plan_came_cause files new words name _ is (stored p bundles text file are comes so) = causes.plans name p bundles text is file are so
 
+-- ---- sync
+
+sync_came_cause : (files : Option Files) (words : List (List ℕ)) (name : List ℕ) (cycles seed : ℕ) (result : Answer) → asked_of words ≡ Some (sync name cycles seed) →
+    SyncCame files name cycles seed result → IsCauseOf files words (ended result)
+sync_came_cause files words name cycles seed _ is (syncs.stopped e stops) =
+    plant_stops_at files words name e (ap plant_asked is) (subst (λ a. LoadsNext (asked_steps a) files name PLANT_FILE files) (sym is) (inl (refl, refl, refl))) stops
+sync_came_cause files words name cycles seed _ is (syncs.cut p device file holds) = causes.no_clock name cycles seed p device is file holds
+sync_came_cause files words name cycles seed _ is (syncs.made p text file holds) = causes.reports name cycles seed p text is file holds
+
 -- ---- show
 
 show_cause : (files new : Option Files) (words : List (List ℕ)) (name : List ℕ) (result : Answer) → asked_of words ≡ Some (show name) → Comes (show_steps name) files new result →
@@ -110,7 +121,7 @@ asked_cause files new words (Some (check name)) result is comes = check_cause fi
 asked_cause files new words (Some (plan name)) result is comes = plan_came_cause files new words name result is (plan_by files new name result comes)
 asked_cause files new words (Some (show name)) result is comes = show_cause files new words name result is comes
 asked_cause files new words None result is comes = nothing_cause files new words None result is tt refl comes
-asked_cause files new words (Some (sync p c s)) result is comes = nothing_cause files new words (Some (sync p c s)) result is (λ built. built) refl comes
+asked_cause files new words (Some (sync p c s)) result is comes = sync_came_cause files words p c s result is (sync_by files new p c s result comes)
 asked_cause files new words (Some (run p c s)) result is comes = nothing_cause files new words (Some (run p c s)) result is (λ built. built) refl comes
 asked_cause files new words (Some (run_world p c w)) result is comes = nothing_cause files new words (Some (run_world p c w)) result is (λ built. built) refl comes
 asked_cause files new words (Some (gen s d f n)) result is comes = nothing_cause files new words (Some (gen s d f n)) result is (λ built. built) refl comes

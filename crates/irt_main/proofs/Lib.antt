@@ -1,6 +1,7 @@
 mod CallLemmas
 mod CauseLemmas
 mod CheckLemmas
+mod CycleLemmas
 mod FileLemmas
 mod NameLemmas
 mod OneLemmas
@@ -10,3 +11,4 @@ mod PlanOne
 mod PlanSteps
 mod SpellingLemmas
 mod StoreOrder
+mod SyncLemmas

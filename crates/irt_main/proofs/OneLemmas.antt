@@ -18,7 +18,9 @@ use Rattle.irt_main.specs.Commands.{asked_steps}
 use Rattle.irt_main.specs.DeviceFiles.{bundle_answer, bundle_steps, device_file_of, device_steps, bundles_steps, store_steps}
 use Rattle.irt_main.specs.Plan.{planning_answer, planning_steps, text_steps, stored_steps, planned_steps}
 use Rattle.irt_main.specs.PlantFile.{plant_answer, plant_steps}
+use Rattle.irt_main.specs.Sync.{report_steps}
 use Rattle.irt_main.proofs.PlanOne.{TreeLaws, FitLaws, TextLaw, one_planning}
+use Rattle.irt_main.proofs.SyncLemmas.{ReportLaw, report_one}
 
 -- a plan has one verdict
 check_one : (plant : Plant) (bundles : List Bundle) (a b : Option Reject) → IsJudged plant bundles a → IsJudged plant bundles b → a ≡ b
@@ -57,13 +59,14 @@ planned_one trees fits texts plant =
     after_one (planning_steps plant) (stored_steps plant) (one_planning trees fits plant, λ found. judged_one (planning_answer plant found))
     (λ bundles. after_one (store_steps plant.devices bundles) (λ done. text_steps plant bundles) (stores_one plant.devices bundles) (λ done. text_one texts plant bundles))
 
-module _ (trees : TreeLaws) (fits : FitLaws) (texts : TextLaw) where
+module _ (trees : TreeLaws) (fits : FitLaws) (texts : TextLaw) (reports : ReportLaw) where
   pub asked_one : (asked : Option Command) → IsOneWay (asked_steps asked)
   asked_one (Some (plan name)) = after_one (plant_steps name) planned_steps (λ bytes. judged_one (plant_answer (plant_of bytes))) (planned_one trees fits texts)
   asked_one (Some (check name)) = after_one (plant_steps name) blocks_steps (λ bytes. judged_one (plant_answer (plant_of bytes))) blocks_one
   asked_one (Some (show name)) = after_one (bundle_steps name) (λ b. gives (bundle_text b)) (bundle_one name) (λ b. tt)
   asked_one None = tt
-  asked_one (Some (sync p c s)) = tt
+  asked_one (Some (sync name cycles seed)) =
+      after_one (plant_steps name) (report_steps cycles seed) (λ bytes. judged_one (plant_answer (plant_of bytes))) (report_one reports cycles seed)
   asked_one (Some (run p c s)) = tt
   asked_one (Some (run_world p c w)) = tt
   asked_one (Some (gen s d f n)) = tt

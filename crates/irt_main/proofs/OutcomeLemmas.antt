@@ -23,9 +23,11 @@ use Rattle.irt_main.specs.Cause.{IsCauseOf}
 use Rattle.irt_main.specs.Check.{verdict_answer, verdict_steps, blocks_steps, check_steps, ArePlanFiles}
 use Rattle.irt_main.specs.Commands.{asked_steps, plant_asked, steps_of, IsNothing}
 use Rattle.irt_main.specs.DeviceFiles.{bundle_steps, device_file_of, device_steps, bundles_steps, store_steps, IsMalformed}
-use Rattle.irt_main.specs.Lines.{usage_line, refusal_line, malformed_line, overrun_line}
+use Rattle.irt_main.specs.Lines.{usage_line, refusal_line, malformed_line, no_clock_line, overrun_line}
 use Rattle.irt_main.specs.Plan.{no_walk_line, ArePlanned, Planning, no_walk, overruns, planned, IsPlanning, planning_answer, planning_steps, text_steps, stored_steps, planned_steps, plan_steps}
-use Rattle.irt_main.specs.PlantFile.{plant_answer, plant_steps, IsPlantFile, IsRefusedFile}
+use Rattle.irt_main.specs.PlantFile.{plant_answer, plant_steps, name_of, IsPlantFile, IsRefusedFile}
+use Rattle.irt_main.specs.Sync.{report_steps}
+use Rattle.irt_main.proofs.SyncLemmas.{cut_comes, made_comes, no_more}
 use Rattle.irt_main.proofs.PlanLemmas.{stores_come, stored_loads}
 use Rattle.irt_main.proofs.FileLemmas.{plant_comes, refusal_comes, bundle_comes, bundles_come, after_judged, malformed_first}
 
@@ -39,7 +41,7 @@ nothing_steps None none = refl
 nothing_steps (Some (plan p)) none = absurd (none tt)
 nothing_steps (Some (check p)) none = absurd (none tt)
 nothing_steps (Some (show f)) none = absurd (none tt)
-nothing_steps (Some (sync p c s)) none = refl
+nothing_steps (Some (sync p c s)) none = absurd (none tt)
 nothing_steps (Some (run p c s)) none = refl
 nothing_steps (Some (run_world p c w)) none = refl
 nothing_steps (Some (gen s d f n)) none = refl
@@ -97,7 +99,14 @@ asked_malformed (Some (plan p)) files now name fault (inr (bytes, held, next)) b
     )
 asked_malformed (Some (show f)) files now name fault next bad = malformed_first f (λ b. gives (bundle_text b)) files now name fault next bad (λ b more. absurd more)
 asked_malformed None files now name fault next bad = absurd next
-asked_malformed (Some (sync p c s)) files now name fault next bad = absurd next
+asked_malformed (Some (sync p c s)) files now name fault (inl (same, limit, kept)) bad = absurd (limits_differ limit)
+asked_malformed (Some (sync p c s)) files now name fault (inr (bytes, held, next)) bad =
+    inl (
+      bytes,
+      held,
+      after_judged (plant_answer (plant_of bytes)) (report_steps c s) files now name DEVICE_FILE (ending 7 (malformed_line name fault)) next
+          (λ plant more. absurd (no_more c s plant files now name DEVICE_FILE more)),
+    )
 asked_malformed (Some (run p c s)) files now name fault next bad = absurd next
 asked_malformed (Some (run_world p c w)) files now name fault next bad = absurd next
 asked_malformed (Some (gen s d f n)) files now name fault next bad = absurd next
@@ -161,7 +170,8 @@ plant_comes_to files (Some (check p)) name refusal is file =
     comes_end (plant_steps p) blocks_steps files files (ending 5 (refusal_line refusal)) (refusal_comes files p refusal (subst (λ n. IsRefusedFile files n refusal) (sym (same_Some p name is)) file))
 plant_comes_to files None name refusal is file = absurd (none-some name is)
 plant_comes_to files (Some (show f)) name refusal is file = absurd (none-some name is)
-plant_comes_to files (Some (sync p c s)) name refusal is file = absurd (none-some name is)
+plant_comes_to files (Some (sync p c s)) name refusal is file =
+    comes_end (plant_steps p) (report_steps c s) files files (ending 5 (refusal_line refusal)) (refusal_comes files p refusal (subst (λ n. IsRefusedFile files n refusal) (sym (same_Some p name is)) file))
 plant_comes_to files (Some (run p c s)) name refusal is file = absurd (none-some name is)
 plant_comes_to files (Some (run_world p c w)) name refusal is file = absurd (none-some name is)
 plant_comes_to files (Some (gen s d f n)) name refusal is file = absurd (none-some name is)
@@ -181,6 +191,8 @@ cause_outcome files words _ (causes.malformed name fault next bad) =
 cause_outcome files words _ (causes.no_walk name p fault is file holds) =
     asked_comes files files words (plan name) (Err (ending 6 (no_walk_line p fault))) is
     (refused_comes files name p (no_walk fault) (ending 6 (no_walk_line p fault)) file holds refl)
+cause_outcome files words _ (causes.no_clock name cycles seed p device is file holds) =
+    asked_comes files files words (sync name cycles seed) (Err (ending 6 (no_clock_line (name_of p device)))) is (cut_comes files name cycles seed p device file holds)
 cause_outcome files words _ (causes.rejects name plant reject is file) =
     asked_comes files files words (check name) (verdict_answer plant (Some reject)) is (check_comes files name plant file.bundles (Some reject) file.are file.rejects)
 cause_outcome files words _ (causes.overruns name p frame is file holds) =
@@ -194,3 +206,5 @@ cause_outcome files words _ (causes.accepts name is file) =
 cause_outcome files words _ (causes.shows name bundle is file) =
     asked_comes files files words (show name) (Ok (bundle_text bundle)) is
     (comes_on (bundle_steps name) (λ b. gives (bundle_text b)) files files files bundle (Ok (bundle_text bundle)) (bundle_comes files name bundle file) (refl, refl))
+cause_outcome files words _ (causes.reports name cycles seed p text is file holds) =
+    asked_comes files files words (sync name cycles seed) (Ok text) is (made_comes files name cycles seed p text file holds)

@@ -12,15 +12,16 @@ use Rattle.irt_steps.specs.Lines.{absent_line, long_line}
 use Rattle.irt_steps.specs.Steps.{Ending, ending, Holds, IsOver, LoadsNext}
 use Rattle.irt_topo.specs.Reading.{PlantRefusal}
 use Rattle.irt_words.specs.Asked.{asked_of}
-use Rattle.irt_words.specs.Commands.{plan, check, show}
+use Rattle.irt_words.specs.Commands.{plan, check, show, sync}
 use Rattle.plan_rules.specs.declared.place.Reject.{Reject}
 use Rattle.plan_schedule.specs.Text.{IsPlanText}
 use Rattle.irt_main.specs.Check.{rejected, IsAcceptedPlan, IsRejectedPlan}
 use Rattle.irt_main.specs.Commands.{IsUsage, plant_asked, steps_of}
 use Rattle.irt_main.specs.DeviceFiles.{IsBundleFile, IsMalformed}
-use Rattle.irt_main.specs.Lines.{usage_line, refusal_line, malformed_line, overrun_line, accept_line}
+use Rattle.irt_main.specs.Lines.{usage_line, refusal_line, malformed_line, no_clock_line, overrun_line, accept_line}
 use Rattle.irt_main.specs.Plan.{no_walk_line, IsNoWalk, OverrunsAt, ArePlanned}
-use Rattle.irt_main.specs.PlantFile.{IsPlantFile, IsRefusedFile}
+use Rattle.irt_main.specs.PlantFile.{name_of, IsPlantFile, IsRefusedFile}
+use Rattle.irt_main.specs.Sync.{IsNoClock, IsReportText}
 
 -- The causes of the words' ending over these files. A file that the command comes to is the first whose step fails:
 -- all its steps before that have succeeded.
@@ -36,6 +37,10 @@ pub data IsCauseOf (files : Option Files) (words : List (List ℕ)) : Ending →
       IsMalformed files name fault → IsCauseOf files words (ending 7 (malformed_line name fault))
   no_walk : (name : List ℕ) (plant : Plant) (fault : RouteFault) → asked_of words ≡ Some (plan name) →
       IsPlantFile files name plant → IsNoWalk plant fault → IsCauseOf files words (ending 6 (no_walk_line plant fault))
+  no_clock : (name : List ℕ) (cycles seed : ℕ) (plant : Plant) (device : ℕ) →
+      asked_of words ≡ Some (sync name cycles seed) →
+      IsPlantFile files name plant → IsNoClock plant device →
+      IsCauseOf files words (ending 6 (no_clock_line (name_of plant device)))
   rejects : (name : List ℕ) (plant : Plant) (reject : Reject) → asked_of words ≡ Some (check name) →
       IsRejectedPlan files name plant reject → IsCauseOf files words (rejected plant reject)
   overruns : (name : List ℕ) (plant : Plant) (frame : FrameId) → asked_of words ≡ Some (plan name) →
@@ -47,3 +52,6 @@ pub data IsCauseOf (files : Option Files) (words : List (List ℕ)) : Ending →
       IsAcceptedPlan files name → IsCauseOf files words (ending 0 accept_line)
   shows : (name : List ℕ) (bundle : Bundle) → asked_of words ≡ Some (show name) →
       IsBundleFile files name bundle → IsCauseOf files words (ending 0 (bundle_text bundle))
+  reports : (name : List ℕ) (cycles seed : ℕ) (plant : Plant) (text : List ℕ) →
+      asked_of words ≡ Some (sync name cycles seed) → IsPlantFile files name plant →
+      IsReportText plant cycles seed text → IsCauseOf files words (ending 0 text)

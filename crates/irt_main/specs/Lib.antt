@@ -7,3 +7,4 @@ pub mod Lines
 pub mod Plan
 pub mod PlantFile
 pub mod Show
+pub mod Sync

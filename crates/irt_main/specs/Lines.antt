@@ -46,6 +46,10 @@ unreachable_line frame device = codes "unreachable " ++ frame_text frame ++ 32 �
 abbrev pub no_path_line : ℕ → List ℕ
 no_path_line traffic = codes "no path " ++ decimal traffic ++ 10 ∷ []
 
+-- the least device to which no walk leads from device 0: `no clock b`
+abbrev pub no_clock_line : List ℕ → List ℕ
+no_clock_line device = codes "no clock " ++ device ++ 10 ∷ []
+
 -- the first frame for which no phase has room: `overrun 0x0101`
 abbrev pub overrun_line : ℕ → List ℕ
 overrun_line frame = codes "overrun " ++ frame_text frame ++ 10 ∷ []

@@ -1,7 +1,7 @@
 //! The lines that the commands print.
 
 ghost use Rattle.std.specs.Prelude.{◌≡◌, IfOk};
-ghost use Rattle.irt_main.specs.Lines.{usage_line, not_toml_line, rule_line, kind_text, malformed_line, accept_line, reject_line, unreachable_line, no_path_line, overrun_line};
+ghost use Rattle.irt_main.specs.Lines.{usage_line, not_toml_line, rule_line, kind_text, malformed_line, accept_line, reject_line, unreachable_line, no_path_line, no_clock_line, overrun_line};
 
 use irt_base::memory::NoMemory;
 use irt_base::numbers::FrameId;
@@ -78,6 +78,16 @@ pub fn no_path_line(alloc: Global, traffic: u16) -> Result<Vec<u8>, NoMemory>
 {
     let line = format!(in alloc; "no path {traffic}\n")?;
     Ok(line.into_bytes())
+}
+
+/// The least device to which no walk leads from device 0; `device` is its name.
+pub fn no_clock_line(alloc: Global, device: &[u8]) -> Result<Vec<u8>, NoMemory>
+    ensures { IfOk result (λ v. v.items ≡ no_clock_line device.now) }
+{
+    let mut line = Vec::from_slice(alloc, b"no clock ")?;
+    line.extend_from_slice(device)?;
+    line.extend_from_slice(b"\n")?;
+    Ok(line)
 }
 
 /// The first frame for which no phase has room.

@@ -6,6 +6,7 @@ mod files;
 mod line;
 mod plan;
 mod show;
+mod sync;
 mod top;
 
 use crate::top::irt_calm;
@@ -44,5 +45,7 @@ fn words_of(rt: &HostRuntime, alloc: Global) -> io::Result<Vec<String>> {
 
 #[cfg(test)]
 mod plan_tests;
+#[cfg(test)]
+mod sync_tests;
 #[cfg(test)]
 mod tests;

@@ -227,7 +227,7 @@ fn words_and_absent_files(rt: HostRuntime) -> Result<(), Fail> {
         (&["check", "--", "-p"], 3, "absent -p\n"),
         (&["check", "pair.toml", "x"], 1, "usage\n"),
         (&["plan", "pair.toml"], 3, "absent pair.toml\n"),
-        (&["sync", "pair.toml", "1", "1"], 1, "usage\n"),
+        (&["sync", "pair.toml", "1", "1"], 3, "absent pair.toml\n"),
     ] {
         let shelf = MemShelf::new(alloc, &[])?;
         expect(&rt, alloc, texts, shelf, status, text.as_bytes())?;

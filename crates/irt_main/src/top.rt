@@ -6,12 +6,13 @@ ghost use Rattle.irt_steps.specs.Follow.{Follows, HasCause};
 ghost use Rattle.irt_words.specs.Asked.{asked_of, texts_of};
 ghost use Rattle.irt_words.specs.Commands.{command_of};
 ghost use Rattle.irt_main.specs.Call.{call, FollowsSteps, TellsCause, HasEveryCause, IsSafeWhereAccepted, StoresSafePlan, StoresInOrder, KeepsFiles, TellsUsage, TakesStated, TellsFaults, IsStatus};
-ghost use Rattle.irt_main.specs.Commands.{StoresFiles, asked_steps, steps_of};
+ghost use Rattle.irt_main.specs.Commands.{HasFewCycles, StoresFiles, asked_steps, steps_of};
 
 use crate::check::check;
 use crate::line::usage_line;
 use crate::plan::plan;
 use crate::show::show;
+use crate::sync::sync;
 use fit_rules::law::{first_fit_is_accepted, first_fit_is_one};
 use irt_base::numbers::Status;
 use irt_io::shelf::Shelf;
@@ -27,6 +28,7 @@ use plan_rules::law::accepted_plans_are_safe;
 use plan_schedule::law::plan_texts_are_one;
 use std::alloc::Global;
 use std::thread::Threads;
+use sync_world::law::reports_are_one;
 
 /// Runs the command of the words. It always returns.
 ///
@@ -67,6 +69,7 @@ pub fn irt_calm<R: Threads + Sync, S: Shelf, K: Sink>(
     first_fit_is_one();
     parents_of_trees();
     plan_texts_are_one();
+    reports_are_one();
     let ended = run(alloc, words, shelf);
     finish(sink, ended)
 }
@@ -90,6 +93,7 @@ fn run_asked<S: Shelf>(
     asked: Option<Asked<'_>>,
     shelf: &mut S,
 ) -> Result<Vec<u8>, Stop>
+    requires { HasFewCycles (option_map command_of asked) }
     ensures step { Follows (λ v. v.items) (asked_steps (option_map command_of asked.entry)) (S.files shelf.old) (S.files shelf.new) result }
     ensures kept { ¬ StoresFiles (option_map command_of asked.entry) → S.files shelf.new ≡ S.files shelf.old }
     ensures cause { HasCause (S.faults shelf.old) (S.faults shelf.new) result }
@@ -99,6 +103,11 @@ fn run_asked<S: Shelf>(
         Some(Asked::Plan { plant }) => plan(alloc, shelf, plant),
         Some(Asked::Check { plant }) => check(alloc, shelf, plant),
         Some(Asked::Show { file }) => show(alloc, shelf, file),
+        Some(Asked::Sync {
+            plant,
+            cycles,
+            seed,
+        }) => sync(alloc, shelf, plant, cycles, seed),
         _ => Err(line_stop(Cause::Usage, usage_line(alloc))),
     }
 }

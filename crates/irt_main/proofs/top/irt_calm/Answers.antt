@@ -16,7 +16,7 @@ returns-clause-exact g c =
     let trees = c.parents_of_trees.ensures in
     let fits = c.first_fit_is_one.ensures in
     has_every_cause (record { one = trees.one; start = trees.start }) (record { bundles = fits.bundles; excluded = fits.excluded; overruns = fits.overruns })
-    c.plan_texts_are_one.ensures.texts _ _ (returns-clause-ends g c)
+    c.plan_texts_are_one.ensures.texts c.reports_are_one.ensures _ _ (returns-clause-ends g c)
 
 pub returns-clause-safe : goal.returns-clause-safe
 returns-clause-safe g c = is_safe c.accepted_plans_are_safe.ensures _ _ (returns-clause-cause g c)
