@@ -24,8 +24,8 @@ def entry(frame, offset, ratio, phase, receiving, sending):
     return struct.pack(">IHHHHHBBBB2x", offset, 40, ratio, phase, frame, 0x8892, receiving, 0, 1, sending)
 
 
-def frames(entries):
-    return block(0x0207, 1, 1, bytes(6) + b"".join(entries))
+def frames(entries, relative=False):
+    return block(0x0207, 1, 1, struct.pack(">2xI", relative) + b"".join(entries))
 
 
 def periods(ports, assignments, begins):

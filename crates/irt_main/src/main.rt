@@ -1,18 +1,10 @@
 //! The program `irt`: plans, checks and simulates plants with PROFINET isochronous real time.
 #![tactic(auto)]
 
-mod check;
-mod files;
-mod line;
-mod plan;
-mod show;
-mod sync;
-mod top;
-
-use crate::top::irt_calm;
 use irt_io::folder::FolderShelf;
 use irt_io::stdout::StdSink;
 use irt_steps::finish::NO_MEMORY;
+use irt_top::top::irt_calm;
 use std::alloc::Global;
 use std::io::ErrorKind;
 use std::process::ExitCode;
@@ -42,10 +34,3 @@ fn words_of(rt: &HostRuntime, alloc: Global) -> io::Result<Vec<String>> {
     }
     Ok(words)
 }
-
-#[cfg(test)]
-mod plan_tests;
-#[cfg(test)]
-mod sync_tests;
-#[cfg(test)]
-mod tests;

@@ -1,5 +1,0 @@
-use Rattle.std.proofs.Common.{length, ◌-◌}
-use Rattle.irt_main.proofs.plan.+store_bundles.Given as goal
-
-abbrev pub decreases-store_bundles : goal.decreases-store_bundles
-decreases-store_bundles g l = length l.devices.now - l.at

@@ -1,0 +1,210 @@
+-- From a cause to where the steps come by it.
+use Rattle.std.proofs.Common.{◌≡◌, inl, inr, ℕ, List, [], ◌∷◌, ◌++◌, Option, Some, None, Result, Ok, Err, refl, sym, subst, arith}
+use Rattle.std.proofs.lemmas.Option.{none-some, same_Some}
+use Rattle.irt_base.specs.declared.limits.TheConstants.{PLANT_FILE, DEVICE_FILE}
+use Rattle.irt_base.specs.declared.blocks.Bundle.{Bundle}
+use Rattle.irt_base.specs.declared.plants.Device.{Device}
+use Rattle.irt_base.specs.declared.plants.Plant.{Plant}
+use Rattle.irt_block.specs.declared.fault.BlockFault.{BlockFault}
+use Rattle.irt_io.specs.Files.{Files}
+use Rattle.irt_show.specs.Show.{bundle_text}
+use Rattle.irt_steps.specs.Ended.{ended, IsOutcome}
+use Rattle.irt_steps.specs.Lines.{absent_line, long_line}
+use Rattle.irt_steps.specs.Steps.{Ending, ending, Steps, gives, after, judged, missing, too_long, Comes, LoadsNext}
+use Rattle.irt_steps.proofs.StepLemmas.{comes_on, comes_end, comes_out, loads_in, unloaded_next}
+use Rattle.irt_topo.specs.Reading.{PlantRefusal, plant_of}
+use Rattle.irt_words.specs.Asked.{asked_of}
+use Rattle.irt_words.specs.Commands.{Command, plan, check, show, sync, run, run_world, gen, free}
+use Rattle.plan_schedule.specs.Text.{IsPlanText}
+use Rattle.plan_check.specs.Verdicts.{IsJudged}
+use Rattle.plan_rules.specs.declared.place.Reject.{Reject}
+use Rattle.irt_top.specs.Cause as causes
+use Rattle.irt_top.specs.Cause.{IsCauseOf}
+use Rattle.irt_top.specs.Check.{verdict_answer, verdict_steps, blocks_steps, check_steps, ArePlanFiles}
+use Rattle.irt_top.specs.Commands.{asked_steps, plant_asked, steps_of, IsNothing}
+use Rattle.irt_top.specs.DeviceFiles.{bundle_steps, device_file_of, device_steps, bundles_steps, store_steps, IsMalformed}
+use Rattle.irt_top.specs.Lines.{usage_line, refusal_line, malformed_line, no_clock_line, overrun_line}
+use Rattle.irt_top.specs.Plan.{no_walk_line, ArePlanned, Planning, no_walk, overruns, planned, IsPlanning, planning_answer, planning_steps, text_steps, stored_steps, planned_steps, plan_steps}
+use Rattle.irt_top.specs.PlantFile.{plant_answer, plant_steps, name_of, IsPlantFile, IsRefusedFile}
+use Rattle.irt_top.specs.Sync.{report_steps}
+use Rattle.irt_top.proofs.SyncLemmas.{cut_comes, made_comes, no_more}
+use Rattle.irt_top.proofs.PlanLemmas.{stores_come, stored_loads}
+use Rattle.irt_top.proofs.FileLemmas.{plant_comes, refusal_comes, bundle_comes, bundles_come, after_judged, malformed_first}
+
+abbrev Answer : Type 0
+Answer = Result (List ℕ) Ending
+
+-- ---- words that ask for nothing
+
+pub nothing_steps : (asked : Option Command) → IsNothing asked → asked_steps asked ≡ asked_steps None
+nothing_steps None none = refl
+nothing_steps (Some (plan p)) none = absurd (none tt)
+nothing_steps (Some (check p)) none = absurd (none tt)
+nothing_steps (Some (show f)) none = absurd (none tt)
+nothing_steps (Some (sync p c s)) none = absurd (none tt)
+nothing_steps (Some (run p c s)) none = refl
+nothing_steps (Some (run_world p c w)) none = refl
+nothing_steps (Some (gen s d f n)) none = refl
+nothing_steps (Some (free p c s)) none = refl
+
+-- ---- a malformed file
+
+abbrev bad_end : List ℕ → BlockFault → Answer
+bad_end name fault = Err (ending 7 (malformed_line name fault))
+
+no_load : (answer : Answer) (files now : Option Files) (name : List ℕ) → ¬ LoadsNext (judged answer) files name DEVICE_FILE now
+no_load (Ok x) files now name next = next
+no_load (Err e) files now name next = next
+
+bundles_malformed : (plant : Plant) (devices : List Device) (front : List Bundle) (files now : Option Files) (name : List ℕ) (fault : BlockFault) →
+    LoadsNext (after (bundles_steps devices front) (verdict_steps plant)) files name DEVICE_FILE now → IsMalformed now name fault →
+    Comes (after (bundles_steps devices front) (verdict_steps plant)) files now (bad_end name fault)
+bundles_malformed plant [] front files now name fault (found, holds, next) bad = absurd (no_load (verdict_answer plant found) files now name next)
+bundles_malformed plant (d ∷ ds) front files now name fault next bad =
+    let device : Bundle → Steps (List Bundle) = λ b. gives (front ++ b ∷ []) in
+    let rest : List Bundle → Steps (List ℕ) = λ bs. after (bundles_steps ds bs) (verdict_steps plant) in
+    let later : Bundle → Steps (List ℕ) = λ b. after (device b) rest in
+    let outer = loads_in (device_steps d front) (bundles_steps ds) (verdict_steps plant) files now name DEVICE_FILE next in
+    let inner = loads_in (bundle_steps (device_file_of d.name)) device rest files now name DEVICE_FILE outer in
+    let first = malformed_first (device_file_of d.name) later files now name fault inner bad (λ b more. bundles_malformed plant ds (front ++ b ∷ []) files now name fault more bad) in
+    comes_out (device_steps d front) (bundles_steps ds) (verdict_steps plant) files now (bad_end name fault)
+    (comes_out (bundle_steps (device_file_of d.name)) device rest files now (bad_end name fault) first)
+
+limits_differ : DEVICE_FILE ≡ PLANT_FILE → ⊥
+limits_differ is = omega (arith, is)
+
+-- a plan loads no device file
+planned_loads : (plant : Plant) (files now : Option Files) (name : List ℕ) → LoadsNext (planned_steps plant) files name DEVICE_FILE now → ⊥
+planned_loads plant files now name (no_walk fault, holds, next) = next
+planned_loads plant files now name (overruns frame, holds, next) = next
+planned_loads plant files now name (planned bundles, holds, next) = stored_loads plant bundles bundles plant.devices files now name DEVICE_FILE next
+
+asked_malformed : (asked : Option Command) (files now : Option Files) (name : List ℕ) (fault : BlockFault) → LoadsNext (asked_steps asked) files name DEVICE_FILE now → IsMalformed now name fault →
+    Comes (asked_steps asked) files now (bad_end name fault)
+asked_malformed (Some (check p)) files now name fault (inl (same, limit, kept)) bad = absurd (limits_differ limit)
+asked_malformed (Some (check p)) files now name fault (inr (bytes, held, next)) bad =
+    inl (
+      bytes,
+      held,
+      after_judged (plant_answer (plant_of bytes)) blocks_steps files now name DEVICE_FILE (ending 7 (malformed_line name fault)) next
+          (λ plant more. bundles_malformed plant plant.devices [] files now name fault more bad),
+    )
+asked_malformed (Some (plan p)) files now name fault (inl (same, limit, kept)) bad = absurd (limits_differ limit)
+asked_malformed (Some (plan p)) files now name fault (inr (bytes, held, next)) bad =
+    inl (
+      bytes,
+      held,
+      after_judged (plant_answer (plant_of bytes)) planned_steps files now name DEVICE_FILE (ending 7 (malformed_line name fault)) next
+          (λ plant more. absurd (planned_loads plant files now name more)),
+    )
+asked_malformed (Some (show f)) files now name fault next bad = malformed_first f (λ b. gives (bundle_text b)) files now name fault next bad (λ b more. absurd more)
+asked_malformed None files now name fault next bad = absurd next
+asked_malformed (Some (sync p c s)) files now name fault (inl (same, limit, kept)) bad = absurd (limits_differ limit)
+asked_malformed (Some (sync p c s)) files now name fault (inr (bytes, held, next)) bad =
+    inl (
+      bytes,
+      held,
+      after_judged (plant_answer (plant_of bytes)) (report_steps c s) files now name DEVICE_FILE (ending 7 (malformed_line name fault)) next
+          (λ plant more. absurd (no_more c s plant files now name DEVICE_FILE more)),
+    )
+asked_malformed (Some (run p c s)) files now name fault next bad = absurd next
+asked_malformed (Some (run_world p c w)) files now name fault next bad = absurd next
+asked_malformed (Some (gen s d f n)) files now name fault next bad = absurd next
+asked_malformed (Some (free p c s)) files now name fault next bad = absurd next
+
+-- ---- a verdict
+
+verdict_comes : (plant : Plant) (bundles : List Bundle) (found : Option Reject) (files : Option Files) → IsJudged plant bundles found →
+    Comes (verdict_steps plant bundles) files files (verdict_answer plant found)
+verdict_comes plant bundles None files holds = (None, holds, (refl, refl))
+verdict_comes plant bundles (Some r) files holds = (Some r, holds, (refl, refl))
+
+check_comes : (files : Option Files) (name : List ℕ) (plant : Plant) (bundles : List Bundle) (found : Option Reject) → ArePlanFiles files name plant bundles → IsJudged plant bundles found →
+    Comes (check_steps name) files files (verdict_answer plant found)
+check_comes files name plant bundles found are holds =
+    comes_on (plant_steps name) blocks_steps files files files plant (verdict_answer plant found) (plant_comes files name plant are.plant_file)
+    (comes_on (bundles_steps plant.devices []) (verdict_steps plant) files files files bundles (verdict_answer plant found)
+    (bundles_come plant.devices [] bundles files are.device_files) (verdict_comes plant bundles found files holds))
+
+-- ---- planning
+
+judged_at : (answer : Result (List Bundle) Ending) (e : Ending) (files : Option Files) → answer ≡ Err e → Comes (judged answer) files files (Err e)
+judged_at (Ok bundles) e files is = absurd cc
+judged_at (Err d) e files is = (sym is, refl)
+
+refused_comes : (files : Option Files) (name : List ℕ) (plant : Plant) (found : Planning) (e : Ending) → IsPlantFile files name plant → IsPlanning plant found →
+    planning_answer plant found ≡ Err e → Comes (plan_steps name) files files (Err e)
+refused_comes files name plant found e file holds is =
+    comes_on (plant_steps name) planned_steps files files files plant (Err e) (plant_comes files name plant file)
+    (comes_end (planning_steps plant) (stored_steps plant) files files e (found, holds, judged_at (planning_answer plant found) e files is))
+
+stored_comes : (files : Option Files) (name : List ℕ) (plant : Plant) (bundles : List Bundle) (text : List ℕ) → IsPlantFile files name plant → ArePlanned plant bundles →
+    IsPlanText plant bundles text → (end : Option Files) × Comes (plan_steps name) files end (Ok text)
+stored_comes files name plant bundles text file are is =
+    let (end, stores) = stores_come plant.devices bundles files in (
+      end,
+      comes_on (plant_steps name) planned_steps files files end plant (Ok text) (plant_comes files name plant file)
+          (comes_on (planning_steps plant) (stored_steps plant) files files end bundles (Ok text) (planned bundles, are, (refl, refl))
+          (comes_on (store_steps plant.devices bundles) (λ done. text_steps plant bundles) files end end tt (Ok text) stores (text, is, (refl, refl)))),
+    )
+
+-- ---- every cause
+
+-- an outcome of the words' steps, and the files after it
+abbrev pub HasOutcome : Option Files → List (List ℕ) → Ending → Type 0
+HasOutcome files words e = (end : Option Files) × IsOutcome (steps_of words) files end e
+
+outcome : (files end : Option Files) (words : List (List ℕ)) (answer : Answer) → Comes (steps_of words) files end answer → HasOutcome files words (ended answer)
+outcome files end words answer comes = (end, record { answer = answer; comes = comes; is = refl })
+
+asked_comes : (files end : Option Files) (words : List (List ℕ)) (command : Command) (answer : Answer) → asked_of words ≡ Some command → Comes (asked_steps (Some command)) files end answer →
+    HasOutcome files words (ended answer)
+asked_comes files end words command answer is comes = outcome files end words answer (subst (λ a. Comes (asked_steps a) files end answer) (sym is) comes)
+
+-- the plant's file of a command is refused
+plant_comes_to : (files : Option Files) (asked : Option Command) (name : List ℕ) (refusal : PlantRefusal) → plant_asked asked ≡ Some name → IsRefusedFile files name refusal →
+    Comes (asked_steps asked) files files (Err (ending 5 (refusal_line refusal)))
+plant_comes_to files (Some (plan p)) name refusal is file =
+    comes_end (plant_steps p) planned_steps files files (ending 5 (refusal_line refusal)) (refusal_comes files p refusal (subst (λ n. IsRefusedFile files n refusal) (sym (same_Some p name is)) file))
+plant_comes_to files (Some (check p)) name refusal is file =
+    comes_end (plant_steps p) blocks_steps files files (ending 5 (refusal_line refusal)) (refusal_comes files p refusal (subst (λ n. IsRefusedFile files n refusal) (sym (same_Some p name is)) file))
+plant_comes_to files None name refusal is file = absurd (none-some name is)
+plant_comes_to files (Some (show f)) name refusal is file = absurd (none-some name is)
+plant_comes_to files (Some (sync p c s)) name refusal is file =
+    comes_end (plant_steps p) (report_steps c s) files files (ending 5 (refusal_line refusal)) (refusal_comes files p refusal (subst (λ n. IsRefusedFile files n refusal) (sym (same_Some p name is)) file))
+plant_comes_to files (Some (run p c s)) name refusal is file = absurd (none-some name is)
+plant_comes_to files (Some (run_world p c w)) name refusal is file = absurd (none-some name is)
+plant_comes_to files (Some (gen s d f n)) name refusal is file = absurd (none-some name is)
+plant_comes_to files (Some (free p c s)) name refusal is file = absurd (none-some name is)
+
+pub cause_outcome : (files : Option Files) (words : List (List ℕ)) (e : Ending) → IsCauseOf files words e → HasOutcome files words e
+cause_outcome files words _ (causes.usage none) =
+    outcome files files words (Err (ending 1 usage_line)) (subst (λ s. Comes s files files (Err (ending 1 usage_line))) (sym (nothing_steps (asked_of words) none)) (refl, refl))
+cause_outcome files words _ (causes.absent name limit next none) =
+    outcome files files words (Err (ending 3 (absent_line name))) (unloaded_next (steps_of words) files files name limit (ending 3 (absent_line name)) next (missing none))
+cause_outcome files words _ (causes.too_long name limit next over) =
+    outcome files files words (Err (ending 4 (long_line name))) (unloaded_next (steps_of words) files files name limit (ending 4 (long_line name)) next (too_long over))
+cause_outcome files words _ (causes.no_plant name refusal is file) =
+    outcome files files words (Err (ending 5 (refusal_line refusal))) (plant_comes_to files (asked_of words) name refusal is file)
+cause_outcome files words _ (causes.malformed name fault next bad) =
+    outcome files files words (bad_end name fault) (asked_malformed (asked_of words) files files name fault next bad)
+cause_outcome files words _ (causes.no_walk name p fault is file holds) =
+    asked_comes files files words (plan name) (Err (ending 6 (no_walk_line p fault))) is
+    (refused_comes files name p (no_walk fault) (ending 6 (no_walk_line p fault)) file holds refl)
+cause_outcome files words _ (causes.no_clock name cycles seed p device is file holds) =
+    asked_comes files files words (sync name cycles seed) (Err (ending 6 (no_clock_line (name_of p device)))) is (cut_comes files name cycles seed p device file holds)
+cause_outcome files words _ (causes.rejects name plant reject is file) =
+    asked_comes files files words (check name) (verdict_answer plant (Some reject)) is (check_comes files name plant file.bundles (Some reject) file.are file.rejects)
+cause_outcome files words _ (causes.overruns name p frame is file holds) =
+    asked_comes files files words (plan name) (Err (ending 9 (overrun_line frame.0))) is
+    (refused_comes files name p (overruns frame) (ending 9 (overrun_line frame.0)) file holds refl)
+cause_outcome files words _ (causes.plans name p bundles text is file are so) =
+    let (end, comes) = stored_comes files name p bundles text file are so in
+    asked_comes files end words (plan name) (Ok text) is comes
+cause_outcome files words _ (causes.accepts name is file) =
+    asked_comes files files words (check name) (verdict_answer file.plant None) is (check_comes files name file.plant file.bundles None file.are file.accepted)
+cause_outcome files words _ (causes.shows name bundle is file) =
+    asked_comes files files words (show name) (Ok (bundle_text bundle)) is
+    (comes_on (bundle_steps name) (λ b. gives (bundle_text b)) files files files bundle (Ok (bundle_text bundle)) (bundle_comes files name bundle file) (refl, refl))
+cause_outcome files words _ (causes.reports name cycles seed p text is file holds) =
+    asked_comes files files words (sync name cycles seed) (Ok text) is (made_comes files name cycles seed p text file holds)

@@ -1,0 +1,47 @@
+use Rattle.irt_steps.proofs.EndedLemmas.{finishes}
+use Rattle.irt_words.specs.Asked.{texts_of}
+use Rattle.irt_top.specs.Commands.{steps_of}
+use Rattle.irt_top.proofs.CallLemmas.{tells_cause, has_every_cause, is_safe, tells_usage, takes_stated, tells_faults, has_status, stores_safe, stores_in_order, keeps_files}
+use Rattle.irt_top.proofs.top.irt_calm.Goals as goal
+
+pub returns-clause-ends : goal.returns-clause-ends
+returns-clause-ends g c =
+    finishes (steps_of (texts_of c.args.words.now)) _ _ _ _ _ _ _ _ c.run-ended.ensures.step c.run-ended.ensures.cause c.finish.ensures
+
+pub returns-clause-cause : goal.returns-clause-cause
+returns-clause-cause g c = tells_cause _ _ (returns-clause-ends g c)
+
+pub returns-clause-exact : goal.returns-clause-exact
+returns-clause-exact g c =
+    let trees = c.parents_of_trees.ensures in
+    let fits = c.first_fit_is_one.ensures in
+    has_every_cause (record { one = trees.one; start = trees.start }) (record { bundles = fits.bundles; excluded = fits.excluded; overruns = fits.overruns })
+    c.plan_texts_are_one.ensures.texts c.reports_are_one.ensures _ _ (returns-clause-ends g c)
+
+pub returns-clause-safe : goal.returns-clause-safe
+returns-clause-safe g c = is_safe c.accepted_plans_are_safe.ensures _ _ (returns-clause-cause g c)
+
+pub returns-clause-usage : goal.returns-clause-usage
+returns-clause-usage g c = tells_usage _ _ (returns-clause-ends g c)
+
+pub returns-clause-stated : goal.returns-clause-stated
+returns-clause-stated g c = takes_stated c.stated_words_are_read.ensures _ _ (returns-clause-ends g c)
+
+pub returns-clause-faults : goal.returns-clause-faults
+returns-clause-faults g c = tells_faults _ _ (returns-clause-ends g c)
+
+pub returns-clause-status : goal.returns-clause-status
+returns-clause-status g c = has_status _ _ (returns-clause-cause g c)
+
+pub returns-clause-stored : goal.returns-clause-stored
+returns-clause-stored g c =
+    let law = c.first_fit_is_accepted.ensures in
+    stores_safe (record { plan = law.plan; accepted = law.accepted; safe = law.safe }) _ _ (returns-clause-ends g c)
+
+pub returns-clause-kept : goal.returns-clause-kept
+returns-clause-kept g c = keeps_files _ _ c.run-ended.ensures.kept (returns-clause-ends g c)
+
+pub returns-clause-order : goal.returns-clause-order
+returns-clause-order g c =
+    let law = c.first_fit_is_accepted.ensures in
+    stores_in_order (record { plan = law.plan; accepted = law.accepted; safe = law.safe }) _ _ (returns-clause-ends g c)

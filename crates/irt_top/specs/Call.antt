@@ -1,0 +1,110 @@
+-- What a call of the program finds and leaves, and what its status means.
+use Rattle.std.specs.Prelude.{◌≡◌, ◌≢◌, ℕ, ◌⊎◌, List, Option, Some, String}
+use Rattle.std.specs.declared.alloc.Global.{Global}
+use Rattle.irt_io.specs.Files.{Files}
+use Rattle.irt_io.specs.Taken.{Appends}
+use Rattle.irt_steps.specs.Ended.{Counts, Rose, EndsAs}
+use Rattle.irt_steps.specs.Steps.{Ending}
+use Rattle.irt_words.specs.Asked.{asked_of, texts_of, words_of, IsStated}
+use Rattle.irt_words.specs.Commands.{Command, plan, check}
+use Rattle.irt_top.specs.Cause.{IsCauseOf}
+use Rattle.irt_top.specs.Check.{IsSafePlan}
+use Rattle.irt_top.specs.Commands.{IsBuilt, IsUsage, StoresFiles, steps_of}
+use Rattle.irt_top.specs.Plan.{IsStoredPlan, IsPlanInOrder}
+
+-- the words, and the shelf and the sink before the call and after it
+pub record Call : Type 0 where
+  pub words : List (List ℕ)
+  pub files : Option Files
+  pub files_after : Option Files
+  pub shelf : Counts
+  pub taken : Option (List ℕ)
+  pub taken_after : Option (List ℕ)
+  pub sink : Counts
+
+abbrev pub Words : Type 0
+Words = List (String Global)
+
+-- the call of these words, by what a shelf and a sink tell
+abbrev pub call : {S K : Type 0} → (S → Option Files) → (S → ℕ) → (K → Option (List ℕ)) → (K → ℕ) → Words → S → S → K → K → Call
+call files shelf_faults taken sink_faults words shelf shelf_after sink sink_after = record {
+  words = texts_of words;
+  files = files shelf;
+  files_after = files shelf_after;
+  shelf = record { before = shelf_faults shelf; now = shelf_faults shelf_after };
+  taken = taken sink;
+  taken_after = taken sink_after;
+  sink = record { before = sink_faults sink; now = sink_faults sink_after };
+}
+
+-- The call ends as the steps of its words do.
+abbrev pub FollowsSteps : Call → ℕ → Type 0
+FollowsSteps c status = EndsAs (steps_of c.words) c.shelf c.sink c.files c.files_after c.taken c.taken_after status
+
+-- a fault of the shelf or the sink, or want of memory
+pub data IsFaulty : ℕ → Type 0 where
+  shelf_fault : IsFaulty 2
+  sink_fault : IsFaulty 12
+  no_memory : IsFaulty 13
+
+-- A text that has this status was printed, with its cause.
+pub record IsCaused (c : Call) (status : ℕ) : Type 0 where
+  pub ending : Ending
+  pub cause : IsCauseOf c.files c.words ending
+  pub status_is : ending.status ≡ status
+  pub printed : Appends c.taken c.taken_after ending.text
+
+-- Each status tells its cause, but for faults and want of memory.
+abbrev pub TellsCause : Call → ℕ → Type 0
+TellsCause c status = IsFaulty status ⊎ IsCaused c status
+
+-- Over files that are told, whatever cause holds, the status is its, but for faults and want of memory.
+abbrev pub HasEveryCause : Call → ℕ → Type 0
+HasEveryCause c status = (files : Files) (e : Ending) → c.files ≡ Some files → IsCauseOf (Some files) c.words e →
+    (status ≡ e.status) ⊎ IsFaulty status
+
+-- What `plan` stores is first fit's plan, and safe over every world.
+abbrev pub StoresSafePlan : Call → ℕ → Type 0
+StoresSafePlan c status =
+    status ≡ 0 → (name : List ℕ) → asked_of c.words ≡ Some (plan name) → IsStoredPlan c.files c.files_after name
+
+-- Whatever becomes of it, `plan` changes no file but those of the devices, one after the other.
+abbrev pub StoresInOrder : Call → Type 0
+StoresInOrder c = (name : List ℕ) → asked_of c.words ≡ Some (plan name) →
+    (c.files_after ≡ c.files) ⊎ IsPlanInOrder c.files c.files_after name
+
+-- A command that stores no files changes none, and a command that is refused changes none either.
+pub record KeepsFiles (c : Call) (status : ℕ) : Type 0 where
+  pub stores_none : ¬ StoresFiles (asked_of c.words) → c.files_after ≡ c.files
+  pub refused : status ≢ 0 → ¬ IsFaulty status → c.files_after ≡ c.files
+
+-- A plan that is accepted is safe over every world.
+abbrev pub IsSafeWhereAccepted : Call → ℕ → Type 0
+IsSafeWhereAccepted c status =
+    status ≡ 0 → (name : List ℕ) → asked_of c.words ≡ Some (check name) → IsSafePlan c.files name
+
+-- Words that are no command are told so, and no other words are.
+abbrev pub TellsUsage : Call → ℕ → Type 0
+TellsUsage c status = (status ≡ 1 → IsUsage c.words) × (IsUsage c.words → (status ≡ 1) ⊎ (status ≡ 12) ⊎ (status ≡ 13))
+
+-- Words that state a command are never usage.
+abbrev pub TakesStated : Call → ℕ → Type 0
+TakesStated c status =
+    (command : Command) → IsStated command → IsBuilt command → c.words ≡ words_of command → status ≢ 1
+
+-- Faults were counted.
+abbrev pub TellsFaults : Call → ℕ → Type 0
+TellsFaults c status = (status ≡ 2 → Rose c.shelf) × (status ≡ 12 → Rose c.sink)
+
+-- every status that there is
+pub data IsStatus : ℕ → Type 0 where
+  done : IsStatus 0
+  usage : IsStatus 1
+  absent : IsStatus 3
+  too_long : IsStatus 4
+  plant : IsStatus 5
+  no_walk : IsStatus 6
+  malformed : IsStatus 7
+  reject : IsStatus 8
+  overrun : IsStatus 9
+  faulty : {status : ℕ} → IsFaulty status → IsStatus status

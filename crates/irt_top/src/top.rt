@@ -1,0 +1,115 @@
+//! The top call: words, files and a sink to a status.
+
+ghost use Rattle.std.specs.Prelude.{◌≡◌, option_map};
+ghost use Rattle.irt_io.specs.Fault.{IsLater};
+ghost use Rattle.irt_steps.specs.Follow.{Follows, HasCause};
+ghost use Rattle.irt_words.specs.Asked.{asked_of, texts_of};
+ghost use Rattle.irt_words.specs.Commands.{command_of};
+ghost use Rattle.irt_top.specs.Call.{call, FollowsSteps, TellsCause, HasEveryCause, IsSafeWhereAccepted, StoresSafePlan, StoresInOrder, KeepsFiles, TellsUsage, TakesStated, TellsFaults, IsStatus};
+ghost use Rattle.irt_top.specs.Commands.{HasFewCycles, StoresFiles, asked_steps, steps_of};
+
+use crate::check::check;
+use crate::line::usage_line;
+use crate::plan::plan;
+use crate::show::show;
+use crate::sync::sync;
+use fit_rules::law::{first_fit_is_accepted, first_fit_is_one};
+use irt_base::numbers::Status;
+use irt_io::shelf::Shelf;
+use irt_io::sink::Sink;
+use irt_route::laws::parents_of_trees;
+use irt_steps::finish::finish;
+use irt_steps::line::line_stop;
+use irt_steps::stop::{Cause, Stop};
+use irt_words::asked::Asked;
+use irt_words::law::stated_words_are_read;
+use irt_words::reading::read_words;
+use plan_rules::law::accepted_plans_are_safe;
+use plan_schedule::law::plan_texts_are_one;
+use std::alloc::Global;
+use std::thread::Threads;
+use sync_world::law::reports_are_one;
+
+/// Runs the command of the words. It always returns.
+///
+/// A clause reads: of this call, that is of these words and what the shelf and the sink tell before and after it,
+/// the status tells so and so. Where a shelf tells no files, `ends` and `cause` hold of some answers that it gave.
+pub fn irt_calm<R: Threads + Sync, S: Shelf, K: Sink>(
+    rt: &R,
+    alloc: Global,
+    words: &[String],
+    shelf: &mut S,
+    sink: &mut K,
+) -> Status
+    // The status, what was printed and the files after the call are those of the words' steps.
+    ensures ends { FollowsSteps (call S.files S.faults K.taken K.faults words.now shelf.old shelf.new sink.old sink.new) result.0 }
+    // A text with this status was printed, and its cause holds; or there was a fault, or want of memory.
+    ensures cause { TellsCause (call S.files S.faults K.taken K.faults words.now shelf.old shelf.new sink.old sink.new) result.0 }
+    // Over files that are told, each cause has its status, but for faults and want of memory.
+    ensures exact { HasEveryCause (call S.files S.faults K.taken K.faults words.now shelf.old shelf.new sink.old sink.new) result.0 }
+    // A plan that is accepted is safe over every world.
+    ensures safe { IsSafeWhereAccepted (call S.files S.faults K.taken K.faults words.now shelf.old shelf.new sink.old sink.new) result.0 }
+    // Status 1 is of words that are no command, whatever the shelf is.
+    ensures usage { TellsUsage (call S.files S.faults K.taken K.faults words.now shelf.old shelf.new sink.old sink.new) result.0 }
+    // Words that state a command are never usage.
+    ensures stated { TakesStated (call S.files S.faults K.taken K.faults words.now shelf.old shelf.new sink.old sink.new) result.0 }
+    // A fault of the shelf is one that it counted, and so is one of the sink.
+    ensures faults { TellsFaults (call S.files S.faults K.taken K.faults words.now shelf.old shelf.new sink.old sink.new) result.0 }
+    ensures status { IsStatus result.0 }
+    // What `plan` stores is first fit's plan, and safe over every world.
+    ensures stored { StoresSafePlan (call S.files S.faults K.taken K.faults words.now shelf.old shelf.new sink.old sink.new) result.0 }
+    // Whatever becomes of it, `plan` changes no file but those of the devices, one after the other.
+    ensures order { StoresInOrder (call S.files S.faults K.taken K.faults words.now shelf.old shelf.new sink.old sink.new) }
+    // Only `plan` changes files, and only where it isn't refused.
+    ensures kept { KeepsFiles (call S.files S.faults K.taken K.faults words.now shelf.old shelf.new sink.old sink.new) result.0 }
+{
+    accepted_plans_are_safe();
+    stated_words_are_read();
+    first_fit_is_accepted();
+    first_fit_is_one();
+    parents_of_trees();
+    plan_texts_are_one();
+    reports_are_one();
+    let ended = run(alloc, words, shelf);
+    finish(sink, ended)
+}
+
+/// The steps of the words' command.
+fn run<S: Shelf>(alloc: Global, words: &[String], shelf: &mut S) -> Result<Vec<u8>, Stop>
+    ensures step { Follows (λ v. v.items) (steps_of (texts_of words.now)) (S.files shelf.old) (S.files shelf.new) result }
+    ensures kept { ¬ StoresFiles (asked_of (texts_of words.now)) → S.files shelf.new ≡ S.files shelf.old }
+    ensures cause { HasCause (S.faults shelf.old) (S.faults shelf.new) result }
+    ensures later { IsLater (S.faults shelf.old) (S.faults shelf.new) }
+{
+    match read_words(alloc, words) {
+        Ok(asked) => run_asked(alloc, asked, shelf),
+        Err(_) => Err(Stop::NoMemory),
+    }
+}
+
+/// The steps of what words ask for.
+fn run_asked<S: Shelf>(
+    alloc: Global,
+    asked: Option<Asked<'_>>,
+    shelf: &mut S,
+) -> Result<Vec<u8>, Stop>
+    requires { HasFewCycles (option_map command_of asked) }
+    ensures step { Follows (λ v. v.items) (asked_steps (option_map command_of asked.entry)) (S.files shelf.old) (S.files shelf.new) result }
+    ensures kept { ¬ StoresFiles (option_map command_of asked.entry) → S.files shelf.new ≡ S.files shelf.old }
+    ensures cause { HasCause (S.faults shelf.old) (S.faults shelf.new) result }
+    ensures later { IsLater (S.faults shelf.old) (S.faults shelf.new) }
+{
+    match asked {
+        Some(Asked::Plan { plant }) => plan(alloc, shelf, plant),
+        Some(Asked::Check { plant }) => check(alloc, shelf, plant),
+        Some(Asked::Show { file }) => show(alloc, shelf, file),
+        Some(
+            Asked::Sync {
+                plant,
+                cycles,
+                seed,
+            },
+        ) => sync(alloc, shelf, plant, cycles, seed),
+        _ => Err(line_stop(Cause::Usage, usage_line(alloc))),
+    }
+}
