@@ -1,0 +1,15 @@
+//! The record of a run, and its text.
+#![tactic(auto)]
+
+mod apps;
+mod cursor;
+mod fields;
+pub mod law;
+mod lines;
+pub mod part;
+mod print;
+pub mod record;
+#[cfg(test)]
+mod tests;
+
+pub use print::print_record;
