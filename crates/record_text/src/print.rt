@@ -21,16 +21,16 @@ use std::alloc::Global;
 ///
 /// # Errors
 /// `NoMemory` where memory runs out.
-pub fn print_record(alloc: Global, plant: &Plant, record: &Record) -> Result<Vec<u8>, NoMemory>
-    requires { StandByCycle record.now.journal }
-    ensures { IfOk result (λ v. v.items ≡ record_text plant.now record.now.cycles (run_of record.now)) }
+pub fn print_record(alloc: Global, plant: &Plant, log: &Record) -> Result<Vec<u8>, NoMemory>
+    requires { StandByCycle log.now.journal }
+    ensures { IfOk result (λ v. v.items ≡ record_text plant.now log.now.cycles (run_of log.now)) }
 {
-    let apps = record.apps.as_slice();
-    let journal = record.journal.as_slice();
+    let apps = log.apps.as_slice();
+    let journal = log.journal.as_slice();
     let mut out = Vec::new(alloc);
-    put_cycles(&mut out, alloc, plant, apps, journal, record.cycles)?;
+    put_cycles(&mut out, alloc, plant, apps, journal, log.cycles)?;
     put_apps(&mut out, plant, Part::Turns, apps)?;
-    put_end(&mut out, record.cycles, journal)?;
+    put_end(&mut out, log.cycles, journal)?;
     Ok(out)
 }
 
