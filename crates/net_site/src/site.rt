@@ -1,6 +1,7 @@
 //! The site.
 
-ghost use Rattle.std.specs.Prelude.{◌≡◌, ℕ, List, ◌==◌, IfOk, position, find, slice_get, option_to_list, option_and_then, unwrap_or};
+ghost use Rattle.std.specs.Prelude.{◌≡◌, ℕ, List, ◌==◌, IfOk, position, find, slice_get};
+ghost use Rattle.std.specs.Prelude.{option_to_list, option_and_then, unwrap_or};
 ghost use Rattle.irt_base.specs.Wiring.{peer_of, hop_of};
 ghost use Rattle.irt_base.specs.declared.blocks.Bundle.{Bundle};
 ghost use Rattle.irt_base.specs.declared.plants.Demand.{Demand};
@@ -51,7 +52,8 @@ impl Site {
     /// `NoMemory` where memory runs out.
     pub fn new(alloc: Global, plant: &Plant, bundles: &[Bundle]) -> Result<Site, NoMemory>
         requires { IsPlan plant.now bundles.now }
-        ensures { IfOk result (λ site. site ≡ record { plant = plant.now; delays = forwardings plant.now bundles.now }) }
+        ensures { IfOk result (λ site. site ≡
+            record { plant = plant.now; delays = forwardings plant.now bundles.now }) }
     {
         Ok(Site {
             plant: plant.deep_copy(alloc)?,
@@ -85,8 +87,8 @@ impl Site {
         place_or_len(self.plant.demands.as_slice(), frame)
     }
 
-    /// The arrival that a start leads to, a hop later in true ns. `None` comes exactly where the port has no link, or one
-    /// that is cut.
+    /// The arrival that a start leads to, a hop later in true ns. `None` comes exactly where the port has no link,
+    /// or one that is cut.
     pub fn arrival(&self, row: &Row, start: Event) -> Option<Event>
         requires { IsSmallTime 60 start.at }
         ensures { (bundles : List Bundle) (k : ℕ) → option_to_list result ≡ caused_by_start
@@ -117,7 +119,8 @@ impl Site {
     }
 
     fn is_uncut(&self, row: &Row, device: DevId, port: PortNo) -> bool
-        ensures { (bundles : List Bundle) (k : ℕ) → result ≡ is_uncut (play_in self.now.plant bundles row.now k) device.0 port.0 }
+        ensures { (bundles : List Bundle) (k : ℕ) →
+            result ≡ is_uncut (play_in self.now.plant bundles row.now k) device.0 port.0 }
     {
         match self.links.link_number(device, port) {
             None => true,

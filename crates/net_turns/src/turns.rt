@@ -1,6 +1,7 @@
 //! Turns.
 
-ghost use Rattle.std.specs.Prelude.{◌≡◌, ◌+◌, ◌≤◌, ◌++◌, ◌∷◌, [], ℕ, List, length, pos, ◌+ℤ◌, option_to_list, IsPermutation};
+ghost use Rattle.std.specs.Prelude.{◌≡◌, ◌+◌, ◌≤◌, ◌++◌, ◌∷◌, [], ℕ, List, length, pos, ◌+ℤ◌};
+ghost use Rattle.std.specs.Prelude.{option_to_list, IsPermutation};
 ghost use Rattle.irt_base.specs.Cycle.{wire_time};
 ghost use Rattle.irt_base.specs.declared.blocks.Bundle.{Bundle};
 ghost use Rattle.irt_base.specs.declared.limits.TheConstants.{MAX_DATA};
@@ -19,8 +20,8 @@ use net_answers::rows::start_row;
 use net_site::site::Site;
 use run_journal::journal::Journal;
 
-/// The turn of a start, in a cycle with this row: the occupation is written down, and the arrival that it leads to is put
-/// into the queue. It takes no memory.
+/// The turn of a start, in a cycle with this row: the occupation is written down, and the arrival that it leads to is
+/// put into the queue. It takes no memory.
 pub fn start_turn(
     site: &Site,
     row: &Row,
