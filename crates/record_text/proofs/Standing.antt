@@ -1,5 +1,5 @@
 -- The rows of a journal stand by cycle.
-use Rattle.std.proofs.Common.{◌≡◌, ◌≤◌, ◌<◌, ◌++◌, ℕ, List, inl, inr, arith, All, AllPairs}
+use Rattle.std.proofs.Common.{◌≡◌, ◌≤◌, ◌<◌, ◌++◌, ℕ, List, inl, inr, arith, All}
 use Rattle.std.specs.List.{Contains}
 use Rattle.std.proofs.lemmas.List.Elements.{All-append, All-contains}
 use Rattle.plan_rules.specs.Way.{Setup}

@@ -9,7 +9,5 @@ mod lines;
 pub mod part;
 mod print;
 pub mod record;
-#[cfg(test)]
-mod tests;
 
 pub use print::print_record;
