@@ -116,7 +116,14 @@ fn frame_of(k: u32, count: u8, status: u8) -> [u8; 60]
     csdu[7] = count;
     csdu[39] = 0x80;
     let mut bytes = [0; 60];
-    write_rtc3(&mut bytes, FrameId(0x0100), DevId(0), &csdu, counter(32, k), status);
+    write_rtc3(
+        &mut bytes,
+        FrameId(0x0100),
+        DevId(0),
+        &csdu,
+        counter(32, k),
+        status,
+    );
     bytes
 }
 
@@ -146,7 +153,10 @@ fn words_are_held_over_a_cut(rt: HostRuntime) -> Result<(), Fail> {
     ] {
         assert!(rt; k < MAX_CYCLES && consumer.cycle() == k);
         if count != 0 {
-            assert_eq!(rt; consumer.accept(k, &frame_of(k, count, DATA_STATUS)), Accept::Taken);
+            assert_eq!(rt;
+                consumer.accept(k, &frame_of(k, count, DATA_STATUS)),
+                Accept::Taken
+            );
         }
         assert_eq!(rt; ended(&rt, &mut consumer, k), shown, "after cycle {k}");
     }
@@ -165,10 +175,17 @@ fn frames_of_a_cycle(rt: HostRuntime) -> Result<(), Fail> {
         (5, 0, 0x25, Accept::Ignored),
     ] {
         assert!(rt; cycle < MAX_CYCLES && consumer.cycle() == 0);
-        assert_eq!(rt; consumer.accept(0, &frame_of(cycle, count, status)), answer, "frame {count}");
+        assert_eq!(rt;
+            consumer.accept(0, &frame_of(cycle, count, status)),
+            answer,
+            "frame {count}"
+        );
     }
     assert!(rt; consumer.cycle() == 0);
-    assert_eq!(rt; consumer.accept(0, &frame_of(0, 6, 0x35)[..59]), Accept::Ignored);
+    assert_eq!(rt;
+        consumer.accept(0, &frame_of(0, 6, 0x35)[..59]),
+        Accept::Ignored
+    );
     assert_eq!(rt; ended(&rt, &mut consumer, 0), (2, 0x80));
     let _provider = Provider::new(rt.alloc(), &device(&rt, rt.alloc(), 0, 2)?, DevId(0))?;
     Ok(())
