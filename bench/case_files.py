@@ -160,9 +160,14 @@ def plans():
     case.save()
     case = Case(32).head(orange=100000).device("a").device("b").device("c", 1).link("a", 1, "b", 1)
     case.demand(0x100, "a", "b").traffic("a", "c").save()
-    planned = [20, 21, 25, 26, 27, 28, 29, 30]
+    # the phases 2, 3 and 4 have the same last end for the second frame, and the least of them is taken
+    case = Case(33).pair()
+    for frame in range(2):
+        case.demand(0x100 + frame, "a", "b", update=4000000)
+    case.save()
+    planned = [20, 21, 25, 26, 27, 28, 29, 30, 33]
     lines = []
-    for number in range(20, 33):
+    for number in range(20, 34):
         lines.append(f"plan p{number}.toml")
         if number in planned:
             lines.append(f"check p{number}.toml")
