@@ -13,11 +13,11 @@ use Rattle.irt_base.specs.declared.plants.Plant.{Plant}
 use Rattle.plan_rules.specs.Arrival.{Arrival, IsArrival}
 use Rattle.plan_rules.specs.Network.{IsSentAt}
 use Rattle.plan_rules.specs.Way.{entry_at, Leaves, IsParent, IsLive, provided, forwarded}
-use Rattle.plan_rules.specs.World.{IsUncut}
+use Rattle.plan_rules.specs.World.{IsUncut, is_in_step, is_uncut}
 use Rattle.cycle_events.specs.declared.events.Event.{Event}
 use Rattle.cycle_events.specs.declared.events.What.{What}
 use Rattle.cycle_events.specs.declared.events.What.TheVariants.{Start, Arrive}
-use Rattle.cycle_events.specs.Events.{Play, Happens, HappensAs, is_in_step, is_uncut, ports_in, event, arrive_at, start_after, starts_at, causes}
+use Rattle.cycle_events.specs.Events.{Play, Happens, HappensAs, ports_in, event, arrive_at, start_after, starts_at, causes}
 use Rattle.cycle_events.specs.Run.{IsBegun}
 use Rattle.cycle_rows.proofs.Lists.{Contains-here}
 use Rattle.cycle_events.proofs.Facts.{Facts}
@@ -50,7 +50,7 @@ module _ (play : Play) (facts : Facts play) (first handled : List Event) (begun 
       hop_of play.setup.plant parent gate ≡ Some hop → Contains handled (event before parent gate frame Start) → Contains handled (event (before +ℤ pos hop) device e.rx_port frame Arrive)
   came_of frame device parent gate e before hop comes uncut hops there =
       caused_handled first (causes play) handled (event before parent gate frame Start) (event (before +ℤ pos hop) device e.rx_port frame Arrive) run there
-      (arrival_caused before frame (is_uncut play parent gate) (peer_of play.setup.plant parent gate) (record { 0 = record { 0 = device }; 1 = record { 0 = e.rx_port } })
+      (arrival_caused before frame (is_uncut play.setup.plant play.row parent gate) (peer_of play.setup.plant parent gate) (record { 0 = record { 0 = device }; 1 = record { 0 = e.rx_port } })
       (hop_of play.setup.plant parent gate) hop (uncut_true play parent gate uncut) comes.leads hops)
 
   start_handled : (frame device : ℕ) → IsLive play.setup play.row frame device → (port : ℕ) (s : ℤ) → IsSentAt play.setup play.row play.cycle device port frame s →
@@ -80,7 +80,7 @@ module _ (play : Play) (facts : Facts play) (first handled : List Event) (begun 
       let leaves : Leaves e port = subst (λ x. Leaves x port) (same_Some sent.entry e (sym sent.stands ∙ at)) sent.leaves in
       let then = start_after play device frame e arrived in
       let sends : IsSentAt play.setup play.row play.cycle device port frame then = sent_then play comes.sent.0 a e port facts refl is step at leaves in
-      let caused = start_caused play device frame arrived (is_in_step play device) (entry_at play.setup device frame) e port (step_true play device step) at
+      let caused = start_caused play device frame arrived (is_in_step play.setup.plant play.row device) (entry_at play.setup device frame) e port (step_true play device step) at
       (ports_have e port ((facts.entries device frame e at).ports port leaves) leaves) in
       let here = caused_handled first (causes play) handled (event arrived device e.rx_port frame Arrive) (event then device port frame Start) run came caused in
       let mine = facts.starts device frame (forwarded device e parent gate at comes live uncut step) in
@@ -100,7 +100,7 @@ module _ (play : Play) (facts : Facts play) (first handled : List Event) (begun 
       }) in
       caused_handled first (causes play) handled (event is.sent is.sender is.port e.frame.0 Start) (event e.at e.device.0 e.port.0 e.frame.0 Arrive) run there
       (subst (λ x. Contains (causes play (event is.sent is.sender is.port e.frame.0 Start)) (event x e.device.0 e.port.0 e.frame.0 Arrive)) (sym is.comes)
-      (arrival_caused is.sent e.frame.0 (is_uncut play is.sender is.port) (peer_of play.setup.plant is.sender is.port)
+      (arrival_caused is.sent e.frame.0 (is_uncut play.setup.plant play.row is.sender is.port) (peer_of play.setup.plant is.sender is.port)
       (record { 0 = e.device; 1 = e.port }) (hop_of play.setup.plant is.sender is.port) is.hop (uncut_true play is.sender is.port is.uncut) is.leads is.hops))
 
   -- whatever happens was handled

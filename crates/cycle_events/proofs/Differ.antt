@@ -11,7 +11,7 @@ use Rattle.irt_base.specs.declared.blocks.Entry.{Entry}
 use Rattle.plan_rules.specs.Network.{IsSentAt}
 use Rattle.plan_rules.specs.Occupation.{Occupation, IsOccupation, IsSameSending, AreOccupations, AreApart}
 use Rattle.plan_rules.specs.Way.{entry_at}
-use Rattle.plan_rules.specs.World.{WorldRow}
+use Rattle.plan_rules.specs.World.{WorldRow, is_in_step}
 use Rattle.cycle_rows.specs.declared.rows.JournalRow.{JournalRow}
 use Rattle.cycle_rows.specs.declared.rows.JournalRow.TheVariants.{Occupy, Deliver, Missed}
 use Rattle.cycle_rows.specs.declared.rows.RowKey.{RowKey}
@@ -19,7 +19,7 @@ use Rattle.cycle_rows.specs.Order.{key_of, HasOtherKey}
 use Rattle.cycle_events.specs.declared.events.Event.{Event}
 use Rattle.cycle_events.specs.declared.events.What.{What}
 use Rattle.cycle_events.specs.declared.events.What.TheVariants.{Start, Arrive}
-use Rattle.cycle_events.specs.Events.{Play, Happens, HappensAs, is_in_step, is_bit, occupied, delivered, rows_as, rows_of}
+use Rattle.cycle_events.specs.Events.{Play, Happens, HappensAs, is_bit, occupied, delivered, rows_as, rows_of}
 use Rattle.cycle_events.specs.Places.{EventPlace, At_port, At_device, is_at}
 use Rattle.cycle_events.specs.Run.{rows_given}
 use Rattle.cycle_rows.proofs.Lists.{nothing, AllPairs-none, AllPairs-append}
@@ -64,7 +64,7 @@ delivered_key play h (Some entry) r is = go (is_bit entry.tx 0) is
 
 key_as : (play : Play) (h : Event) (what : What) (r : JournalRow) → Contains (rows_as play h what) r → IsKeyAs h what (key_of r)
 key_as play h Start r is = occupied_key play h (entry_at play.setup h.device.0 h.frame.0) r is
-key_as play h Arrive r is = go (is_in_step play h.device.0) is
+key_as play h Arrive r is = go (is_in_step play.setup.plant play.row h.device.0) is
   where
     go : (b : Bool) → Contains (cond b (delivered play h (entry_at play.setup h.device.0 h.frame.0)) (Missed play.cycle h.device h.frame ∷ [])) r → IsNameKey h (key_of r)
     go true is = delivered_key play h (entry_at play.setup h.device.0 h.frame.0) r is
@@ -77,7 +77,7 @@ one_row play h Start = go (entry_at play.setup h.device.0 h.frame.0)
     go : (o : Option Entry) → length (occupied play h o) ≤ 1
     go None = omega arith
     go (Some entry) = omega arith
-one_row play h Arrive = go (is_in_step play h.device.0) (entry_at play.setup h.device.0 h.frame.0)
+one_row play h Arrive = go (is_in_step play.setup.plant play.row h.device.0) (entry_at play.setup h.device.0 h.frame.0)
   where
     go : (b : Bool) (o : Option Entry) → length (cond b (delivered play h o) (Missed play.cycle h.device h.frame ∷ [])) ≤ 1
     go false o = omega arith

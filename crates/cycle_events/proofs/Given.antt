@@ -15,14 +15,14 @@ use Rattle.plan_rules.specs.Network.{IsSentAt}
 use Rattle.plan_rules.specs.Occupation.{IsOccupation}
 use Rattle.plan_rules.specs.Tree.{demand_of, Consumes}
 use Rattle.plan_rules.specs.Way.{entry_at}
-use Rattle.plan_rules.specs.World.{WorldRow, IsInStep}
+use Rattle.plan_rules.specs.World.{WorldRow, IsInStep, is_in_step}
 use Rattle.cycle_rows.specs.declared.rows.JournalRow.{JournalRow}
 use Rattle.cycle_rows.specs.declared.rows.JournalRow.TheVariants.{Occupy, Deliver, Missed, Sent, Refused, Lost, Came}
 use Rattle.cycle_rows.specs.Rows.{IsMissed, IsFrameRowOf}
 use Rattle.cycle_events.specs.declared.events.Event.{Event}
 use Rattle.cycle_events.specs.declared.events.What.{What}
 use Rattle.cycle_events.specs.declared.events.What.TheVariants.{Start, Arrive}
-use Rattle.cycle_events.specs.Events.{Play, arrival_of, Happens, HappensAs, is_in_step, is_bit, event, occupied, delivered, rows_as, rows_of, causes}
+use Rattle.cycle_events.specs.Events.{Play, arrival_of, Happens, HappensAs, is_bit, event, occupied, delivered, rows_as, rows_of, causes}
 use Rattle.cycle_events.specs.Run.{IsBegun, rows_given}
 use Rattle.cycle_rows.proofs.Lists.{nothing, Contains-here}
 use Rattle.cycle_events.proofs.Complete.{all_handled}
@@ -88,9 +88,9 @@ module _ (play : Play) (facts : Facts play) (world : List WorldRow) (in_cycle : 
 
   given_as : (h : Event) (what : What) → HappensAs play h what → (r : JournalRow) → Contains (rows_as play h what) r → IsOf r
   given_as h Start sent r among = occupied_row h sent (entry_at play.setup h.device.0 h.frame.0) refl r among
-  given_as h Arrive (from, is) r among = go (is_in_step play h.device.0) refl among
+  given_as h Arrive (from, is) r among = go (is_in_step play.setup.plant play.row h.device.0) refl among
     where
-      go : (b : Bool) → is_in_step play h.device.0 ≡ b →
+      go : (b : Bool) → is_in_step play.setup.plant play.row h.device.0 ≡ b →
           Contains (cond b (delivered play h (entry_at play.setup h.device.0 h.frame.0)) (Missed play.cycle h.device h.frame ∷ [])) r → IsOf r
       go true step among = delivered_row h from is (step_passed play h.device.0 step) (entry_at play.setup h.device.0 h.frame.0) refl r among
       go false step among = subst IsOf (only_one (Missed play.cycle h.device h.frame) r among) (
@@ -152,7 +152,7 @@ module _ (play : Play) (facts : Facts play) (world : List WorldRow) (in_cycle : 
         let m = facts.met play.row whole.from (arrival_of play h) arrives in
         let length : is.e.data_length ≡ whole.from.data_length = ap (λ (x : Entry). x.data_length) (same_Some is.e m.e (sym is.stands ∙ m.stands)) ∙ m.alike.length in
         let here = Contains-flat_map (rows_of play) handled h (deliver_row play h is.e) there
-        (delivered_has h (is_in_step play d.0) (Missed play.cycle d f ∷ []) (entry_at play.setup d.0 f.0) is.e (step_true play d.0 step) is.stands
+        (delivered_has h (is_in_step play.setup.plant play.row d.0) (Missed play.cycle d f ∷ []) (entry_at play.setup d.0 f.0) is.e (step_true play d.0 step) is.stands
         (consumer_bit d.0 f.0 is.e is.demand is.stands is.demanded is.consumed)) in
         subst (λ z. IsGiven (Deliver play.cycle d f z)) (ap (λ n. whole.start +ℤ pos (wire_time n)) length ∙ sym whole.ends) here
 
@@ -164,7 +164,7 @@ module _ (play : Play) (facts : Facts play) (world : List WorldRow) (in_cycle : 
         let off : ¬ IsInStep play.setup.plant play.row d.0 = subst (λ w. ¬ IsInStep play.setup.plant w d.0) rows is.dropped.1 in
         let there = all_handled play facts first handled begun run h (is.from, arrives) in
         Contains-flat_map (rows_of play) handled h (Missed play.cycle d f) there
-        (missed_has h (is_in_step play d.0) (delivered play h (entry_at play.setup d.0 f.0)) (step_false play d.0 off))
+        (missed_has h (is_in_step play.setup.plant play.row d.0) (delivered play h (entry_at play.setup d.0 f.0)) (step_false play d.0 off))
 
     pub all_given : (r : JournalRow) → IsOf r → IsGiven r
     all_given (Occupy c d p f start end) (same, is) =

@@ -16,7 +16,8 @@ use Rattle.plan_rules.specs.Way.{entry_at, IsParent, IsLive, provided, forwarded
 use Rattle.cycle_events.specs.declared.events.Event.{Event}
 use Rattle.cycle_events.specs.declared.events.What.{What}
 use Rattle.cycle_events.specs.declared.events.What.TheVariants.{Start, Arrive}
-use Rattle.cycle_events.specs.Events.{Play, arrival_of, Happens, HappensAs, IsFirst, is_in_step, is_uncut, is_bit, ports_in, event, arrive_at, start_after, starts_at, causes, causes_as}
+use Rattle.plan_rules.specs.World.{is_in_step, is_uncut}
+use Rattle.cycle_events.specs.Events.{Play, arrival_of, Happens, HappensAs, IsFirst, is_bit, ports_in, event, arrive_at, start_after, starts_at, causes, causes_as}
 use Rattle.cycle_events.specs.Places.{is_start, is_arrival, starts_by, comes_to}
 use Rattle.cycle_events.specs.Run.{IsBegun}
 use Rattle.cycle_rows.proofs.Lists.{count_none}
@@ -72,14 +73,14 @@ starts_counted at v f d p g tx = go (v == d) (f == g) refl refl
 
 start_causes : (play : Play) (d p g : ℕ) (e : Event) (what : What) →
     count_by (starts_by d p g) (causes_as play e what) ≤ cond (is_arrival what && ((e.device.0 == d) && (e.frame.0 == g))) 1 0
-start_causes play d p g e Start = go (is_uncut play e.device.0 e.port.0) (peer_of play.setup.plant e.device.0 e.port.0) (hop_of play.setup.plant e.device.0 e.port.0)
+start_causes play d p g e Start = go (is_uncut play.setup.plant play.row e.device.0 e.port.0) (peer_of play.setup.plant e.device.0 e.port.0) (hop_of play.setup.plant e.device.0 e.port.0)
   where
     go : (b : Bool) (far : Option (DevId × PortNo)) (hop : Option ℕ) → count_by (starts_by d p g) (cond b (arrive_at e.at e.frame.0 far hop) []) ≤ 0
     go false far hop = omega arith
     go true None hop = omega arith
     go true (Some far) None = omega arith
     go true (Some far) (Some hop) = omega arith
-start_causes play d p g e Arrive = go (is_in_step play e.device.0) (entry_at play.setup e.device.0 e.frame.0)
+start_causes play d p g e Arrive = go (is_in_step play.setup.plant play.row e.device.0) (entry_at play.setup e.device.0 e.frame.0)
   where
     go : (b : Bool) (o : Option Entry) → count_by (starts_by d p g) (cond b (starts_at play e.device.0 e.frame.0 e.at o) []) ≤ cond ((e.device.0 == d) && (e.frame.0 == g)) 1 0
     go false o = omega arith
@@ -92,7 +93,7 @@ coe3 : {X Y Z : Type 0} (P : X → Y → Z → Type 0) {x x' : X} {y y' : Y} {z 
 coe3 P {x} {x'} {y} {y'} {z} {z'} p q r t = subst (λ w. P x' y' w) r (subst (λ w. P x' w z) q (subst (λ w. P w y z) p t))
 
 parent_starts : (play : Play) → Facts play → (h : Event) (f d u p : ℕ) (e : Entry) → entry_at play.setup d f ≡ Some e → IsParent play.setup f d e u p →
-    (sent : IsSentAt play.setup play.row play.cycle h.device.0 h.port.0 h.frame.0 h.at) → is_uncut play h.device.0 h.port.0 ≡ true → (far : DevId × PortNo) →
+    (sent : IsSentAt play.setup play.row play.cycle h.device.0 h.port.0 h.frame.0 h.at) → is_uncut play.setup.plant play.row h.device.0 h.port.0 ≡ true → (far : DevId × PortNo) →
     peer_of play.setup.plant h.device.0 h.port.0 ≡ Some far → (hop : ℕ) → hop_of play.setup.plant h.device.0 h.port.0 ≡ Some hop → far.0.0 ≡ d → h.frame.0 ≡ f →
     (h.device.0 ≡ u) × (h.port.0 ≡ p)
 parent_starts play facts h f d u p e stands comes sent uncut far leads hop hops device frame =
@@ -108,9 +109,9 @@ arrival_causes : (play : Play) → Facts play → (f d u p : ℕ) (e : Entry) �
     (h : Event) (what : What) → HappensAs play h what →
     count_by (comes_to d f) (causes_as play h what) ≤ cond (is_start what && ((h.device.0 == u) && ((h.port.0 == p) && (h.frame.0 == f)))) 1 0
 arrival_causes play facts f d u p e stands comes h Start sent =
-    go (is_uncut play h.device.0 h.port.0) refl (peer_of play.setup.plant h.device.0 h.port.0) refl (hop_of play.setup.plant h.device.0 h.port.0) refl
+    go (is_uncut play.setup.plant play.row h.device.0 h.port.0) refl (peer_of play.setup.plant h.device.0 h.port.0) refl (hop_of play.setup.plant h.device.0 h.port.0) refl
   where
-    met : is_uncut play h.device.0 h.port.0 ≡ true → (far : DevId × PortNo) → peer_of play.setup.plant h.device.0 h.port.0 ≡ Some far → (hop : ℕ) →
+    met : is_uncut play.setup.plant play.row h.device.0 h.port.0 ≡ true → (far : DevId × PortNo) → peer_of play.setup.plant h.device.0 h.port.0 ≡ Some far → (hop : ℕ) →
         hop_of play.setup.plant h.device.0 h.port.0 ≡ Some hop → (a b : Bool) → (far.0.0 == d) ≡ a → (h.frame.0 == f) ≡ b →
         cond {A = ℕ} (a && b) 1 0 ≤ cond ((h.device.0 == u) && ((h.port.0 == p) && (h.frame.0 == f))) 1 0
     met uncut far leads hop hops true true x y =
@@ -119,7 +120,7 @@ arrival_causes play facts f d u p e stands comes h Start sent =
     met uncut far leads hop hops true false x y = omega arith
     met uncut far leads hop hops false b x y = omega arith
 
-    go : (b : Bool) → is_uncut play h.device.0 h.port.0 ≡ b → (far : Option (DevId × PortNo)) → peer_of play.setup.plant h.device.0 h.port.0 ≡ far → (hop : Option ℕ) →
+    go : (b : Bool) → is_uncut play.setup.plant play.row h.device.0 h.port.0 ≡ b → (far : Option (DevId × PortNo)) → peer_of play.setup.plant h.device.0 h.port.0 ≡ far → (hop : Option ℕ) →
         hop_of play.setup.plant h.device.0 h.port.0 ≡ hop →
         count_by (comes_to d f) (cond b (arrive_at h.at h.frame.0 far hop) []) ≤ cond ((h.device.0 == u) && ((h.port.0 == p) && (h.frame.0 == f))) 1 0
     go false uncut far leads hop hops = omega arith
@@ -128,7 +129,7 @@ arrival_causes play facts f d u p e stands comes h Start sent =
     go true uncut (Some far) leads (Some hop) hops =
         let m = met uncut far leads hop hops (far.0.0 == d) (h.frame.0 == f) refl refl in
         omega arith
-arrival_causes play facts f d u p e stands comes h Arrive is = go (is_in_step play h.device.0) (entry_at play.setup h.device.0 h.frame.0)
+arrival_causes play facts f d u p e stands comes h Arrive is = go (is_in_step play.setup.plant play.row h.device.0) (entry_at play.setup h.device.0 h.frame.0)
   where
     none : (at : ℤ) (ports : List ℕ) → count_by (comes_to d f) (map (λ port. event at h.device.0 port h.frame.0 Start) ports) ≡ 0
     none at ports =

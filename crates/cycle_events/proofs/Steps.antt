@@ -12,17 +12,17 @@ use Rattle.irt_base.specs.declared.blocks.Entry.{Entry}
 use Rattle.plan_rules.specs.Arrival.{Arrival, IsArrival}
 use Rattle.plan_rules.specs.Network.{IsSentAt, IsSentOn}
 use Rattle.plan_rules.specs.Way.{entry_at, Leaves}
-use Rattle.plan_rules.specs.World.{IsInStep}
+use Rattle.plan_rules.specs.World.{IsInStep, is_in_step, is_uncut}
 use Rattle.cycle_events.specs.declared.events.Event.{Event}
 use Rattle.cycle_events.specs.declared.events.What.{What}
 use Rattle.cycle_events.specs.declared.events.What.TheVariants.{Start, Arrive}
-use Rattle.cycle_events.specs.Events.{Play, arrival_of, Happens, HappensAs, is_in_step, is_uncut, ports_in, is_absolute, event, arrive_at, start_after, starts_at, causes, causes_as}
+use Rattle.cycle_events.specs.Events.{Play, arrival_of, Happens, HappensAs, ports_in, is_absolute, event, arrive_at, start_after, starts_at, causes, causes_as}
 use Rattle.cycle_events.proofs.Facts.{Facts}
 use Rattle.cycle_events.proofs.Tests.{step_passed, uncut_passed, absolute_passed, absolute_true, ports_leave}
 
 -- ---- an uncut link leads a start to an arrival
 
-abbrev pub arrival_from : (play : Play) (device port frame : ℕ) (start : ℤ) → (sent : IsSentAt play.setup play.row play.cycle device port frame start) → is_uncut play device port ≡ true →
+abbrev pub arrival_from : (play : Play) (device port frame : ℕ) (start : ℤ) → (sent : IsSentAt play.setup play.row play.cycle device port frame start) → is_uncut play.setup.plant play.row device port ≡ true →
     (far : DevId × PortNo) → peer_of play.setup.plant device port ≡ Some far → (hop : ℕ) → hop_of play.setup.plant device port ≡ Some hop →
     IsArrival play.setup play.row sent.entry (record { cycle = play.cycle; device = far.0.0; port = far.1.0; frame = frame; start = start +ℤ pos hop })
 arrival_from play device port frame start sent uncut far leads hop hops = record {
@@ -41,7 +41,7 @@ arrival_from play device port frame start sent uncut far leads hop hops = record
   comes = refl;
 }
 
-arrival_happens : (play : Play) (device port frame : ℕ) (start : ℤ) → IsSentAt play.setup play.row play.cycle device port frame start → (b : Bool) → is_uncut play device port ≡ b →
+arrival_happens : (play : Play) (device port frame : ℕ) (start : ℤ) → IsSentAt play.setup play.row play.cycle device port frame start → (b : Bool) → is_uncut play.setup.plant play.row device port ≡ b →
     (far : Option (DevId × PortNo)) → peer_of play.setup.plant device port ≡ far → (hop : Option ℕ) → hop_of play.setup.plant device port ≡ hop →
     All (Happens play) (cond b (arrive_at start frame far hop) [])
 arrival_happens play device port frame start sent false uncut far leads hop hops = All-nil (Happens play)
@@ -72,7 +72,7 @@ sent_then play from a e port facts cycle is step at leaves =
     (subst (IsSentAt play.setup play.row a.cycle a.device port a.frame) same on.sent)
 
 starts_happen : (play : Play) (from : Entry) (a : Arrival) → Facts play → a.cycle ≡ play.cycle → IsArrival play.setup play.row from a →
-    (b : Bool) → is_in_step play a.device ≡ b → (o : Option Entry) → entry_at play.setup a.device a.frame ≡ o →
+    (b : Bool) → is_in_step play.setup.plant play.row a.device ≡ b → (o : Option Entry) → entry_at play.setup a.device a.frame ≡ o →
     All (Happens play) (cond b (starts_at play a.device a.frame a.start o) [])
 starts_happen play from a facts cycle is false step o at = All-nil (Happens play)
 starts_happen play from a facts cycle is true step None at = All-nil (Happens play)
@@ -84,10 +84,10 @@ starts_happen play from a facts cycle is true step (Some e) at =
 
 causes_happen_as : (play : Play) → Facts play → (e : Event) (what : What) → HappensAs play e what → All (Happens play) (causes_as play e what)
 causes_happen_as play facts e Start is =
-    arrival_happens play e.device.0 e.port.0 e.frame.0 e.at is (is_uncut play e.device.0 e.port.0) refl
+    arrival_happens play e.device.0 e.port.0 e.frame.0 e.at is (is_uncut play.setup.plant play.row e.device.0 e.port.0) refl
     (peer_of play.setup.plant e.device.0 e.port.0) refl (hop_of play.setup.plant e.device.0 e.port.0) refl
 causes_happen_as play facts e Arrive (from, is) =
-    starts_happen play from (arrival_of play e) facts refl is (is_in_step play e.device.0) refl (entry_at play.setup e.device.0 e.frame.0) refl
+    starts_happen play from (arrival_of play e) facts refl is (is_in_step play.setup.plant play.row e.device.0) refl (entry_at play.setup e.device.0 e.frame.0) refl
 
 pub causes_happen : (play : Play) → Facts play → (e : Event) → Happens play e → All (Happens play) (causes play e)
 causes_happen play facts e is = causes_happen_as play facts e e.what is
@@ -108,7 +108,7 @@ arrival_follows at frame true (Some far) (Some hop) =
     All-cons (IsAfter at) (event (at +ℤ pos hop) far.0.0 far.1.0 frame Arrive) [] (after_gap at hop) (All-nil (IsAfter at))
 
 starts_follow : (play : Play) (from : Entry) (a : Arrival) → Facts play → a.cycle ≡ play.cycle → IsArrival play.setup play.row from a →
-    (b : Bool) → is_in_step play a.device ≡ b → (o : Option Entry) → entry_at play.setup a.device a.frame ≡ o →
+    (b : Bool) → is_in_step play.setup.plant play.row a.device ≡ b → (o : Option Entry) → entry_at play.setup a.device a.frame ≡ o →
     All (IsAfter a.start) (cond b (starts_at play a.device a.frame a.start o) [])
 starts_follow play from a facts cycle is false step o at = All-nil (IsAfter a.start)
 starts_follow play from a facts cycle is true step None at = All-nil (IsAfter a.start)
@@ -123,9 +123,9 @@ starts_follow play from a facts cycle is true step (Some e) at =
 
 causes_follow_as : (play : Play) → Facts play → (e : Event) (what : What) → HappensAs play e what → All (IsAfter e.at) (causes_as play e what)
 causes_follow_as play facts e Start is =
-    arrival_follows e.at e.frame.0 (is_uncut play e.device.0 e.port.0) (peer_of play.setup.plant e.device.0 e.port.0) (hop_of play.setup.plant e.device.0 e.port.0)
+    arrival_follows e.at e.frame.0 (is_uncut play.setup.plant play.row e.device.0 e.port.0) (peer_of play.setup.plant e.device.0 e.port.0) (hop_of play.setup.plant e.device.0 e.port.0)
 causes_follow_as play facts e Arrive (from, is) =
-    starts_follow play from (arrival_of play e) facts refl is (is_in_step play e.device.0) refl (entry_at play.setup e.device.0 e.frame.0) refl
+    starts_follow play from (arrival_of play e) facts refl is (is_in_step play.setup.plant play.row e.device.0) refl (entry_at play.setup e.device.0 e.frame.0) refl
 
 pub causes_follow : (play : Play) → Facts play → (e : Event) → Happens play e → All (λ (c : Event). e.at ≤ℤ c.at) (causes play e)
 causes_follow play facts e is = causes_follow_as play facts e e.what is

@@ -11,9 +11,9 @@ use Rattle.irt_base.specs.declared.plants.Device.{Device}
 use Rattle.irt_base.specs.declared.plants.Mode.{Mode}
 use Rattle.irt_base.specs.declared.plants.Mode.TheVariants.{Absolute, Relative}
 use Rattle.irt_base.specs.declared.plants.Plant.{Plant}
-use Rattle.plan_rules.specs.World.{WorldRow, IsWithinWindow, IsInStep, IsUncut}
+use Rattle.plan_rules.specs.World.{WorldRow, IsWithinWindow, IsInStep, IsUncut, is_within_window, is_in_step, passes, is_uncut}
 use Rattle.plan_rules.specs.Way.{Leaves, IsAbsolute}
-use Rattle.cycle_events.specs.Events.{Play, is_within_window, is_in_step, passes, is_uncut, is_bit, ports_in, is_absolute_mode, has_absolute_mode, is_absolute}
+use Rattle.cycle_events.specs.Events.{Play, is_bit, ports_in, is_absolute_mode, has_absolute_mode, is_absolute}
 use Rattle.cycle_events.proofs.Lists.{filter_passed, filter_has}
 
 window_passed : (error window : ℤ) → is_within_window error window ≡ true → IsWithinWindow error window
@@ -25,10 +25,10 @@ window_failed error window h off =
     let l = off.late in
     grind (arith, ints)
 
-pub step_passed : (play : Play) (device : ℕ) → is_in_step play device ≡ true → IsInStep play.setup.plant play.row device
+pub step_passed : (play : Play) (device : ℕ) → is_in_step play.setup.plant play.row device ≡ true → IsInStep play.setup.plant play.row device
 step_passed play device h = window_passed (play.row.error device) (pos play.setup.plant.window) h
 
-pub step_failed : (play : Play) (device : ℕ) → is_in_step play device ≡ false → ¬ IsInStep play.setup.plant play.row device
+pub step_failed : (play : Play) (device : ℕ) → is_in_step play.setup.plant play.row device ≡ false → ¬ IsInStep play.setup.plant play.row device
 step_failed play device h = window_failed (play.row.error device) (pos play.setup.plant.window) h
 
 true_of : {P : Type 0} (b : Bool) → (b ≡ false → ¬ P) → P → b ≡ true
@@ -39,11 +39,11 @@ false_of : {P : Type 0} (b : Bool) → (b ≡ true → P) → ¬ P → b ≡ fal
 false_of true f n = absurd (n (f refl))
 false_of false f n = refl
 
-pub step_true : (play : Play) (device : ℕ) → IsInStep play.setup.plant play.row device → is_in_step play device ≡ true
-step_true play device h = true_of (is_in_step play device) (step_failed play device) h
+pub step_true : (play : Play) (device : ℕ) → IsInStep play.setup.plant play.row device → is_in_step play.setup.plant play.row device ≡ true
+step_true play device h = true_of (is_in_step play.setup.plant play.row device) (step_failed play device) h
 
-pub step_false : (play : Play) (device : ℕ) → ¬ IsInStep play.setup.plant play.row device → is_in_step play device ≡ false
-step_false play device h = false_of (is_in_step play device) (step_passed play device) h
+pub step_false : (play : Play) (device : ℕ) → ¬ IsInStep play.setup.plant play.row device → is_in_step play.setup.plant play.row device ≡ false
+step_false play device h = false_of (is_in_step play.setup.plant play.row device) (step_passed play device) h
 
 link_passed : (row : WorldRow) (o : Option ℕ) → passes row o ≡ true → IfSome o (λ n. row.is_cut n ≡ false)
 link_passed row None h = search rules
@@ -53,10 +53,10 @@ link_true : (row : WorldRow) (o : Option ℕ) → IfSome o (λ n. row.is_cut n �
 link_true row None h = refl
 link_true row (Some n) h = ap not h
 
-pub uncut_passed : (play : Play) (device port : ℕ) → is_uncut play device port ≡ true → IsUncut play.setup.plant play.row device port
+pub uncut_passed : (play : Play) (device port : ℕ) → is_uncut play.setup.plant play.row device port ≡ true → IsUncut play.setup.plant play.row device port
 uncut_passed play device port h = link_passed play.row (link_number play.setup.plant device port) h
 
-pub uncut_true : (play : Play) (device port : ℕ) → IsUncut play.setup.plant play.row device port → is_uncut play device port ≡ true
+pub uncut_true : (play : Play) (device port : ℕ) → IsUncut play.setup.plant play.row device port → is_uncut play.setup.plant play.row device port ≡ true
 uncut_true play device port h = link_true play.row (link_number play.setup.plant device port) h
 
 pub bit_passed : (tx k : ℕ) → is_bit tx k ≡ true → IsBitSet tx k

@@ -2,7 +2,7 @@
 -- these looks at any other event.
 use Rattle.std.specs.Prelude.{◌≡◌, ℕ, ◌+◌, ◌*◌, ◌^◌, ◌==◌, Bool, true, false, not, ◌&&◌, if◌then◌else◌, List, [], ◌∷◌, map, filter, Option, Some, None, slice_get, ℤ, pos, ◌+ℤ◌, int_le, bit_and}
 use Rattle.irt_base.specs.Cycle.{wire_time, cycle_time}
-use Rattle.irt_base.specs.Wiring.{peer_of, hop_of, link_number}
+use Rattle.irt_base.specs.Wiring.{peer_of, hop_of}
 use Rattle.irt_base.specs.declared.numbers.DevId.{DevId}
 use Rattle.irt_base.specs.declared.numbers.PortNo.{PortNo}
 use Rattle.irt_base.specs.declared.blocks.Entry.{Entry}
@@ -13,7 +13,7 @@ use Rattle.irt_base.specs.declared.plants.Plant.{Plant}
 use Rattle.plan_rules.specs.Arrival.{Arrival, IsArrival}
 use Rattle.plan_rules.specs.Network.{IsSentAt}
 use Rattle.plan_rules.specs.Way.{Setup, entry_at}
-use Rattle.plan_rules.specs.World.{WorldRow}
+use Rattle.plan_rules.specs.World.{WorldRow, is_in_step, is_uncut}
 use Rattle.cycle_rows.specs.declared.rows.JournalRow.{JournalRow}
 use Rattle.cycle_rows.specs.declared.rows.JournalRow.TheVariants.{Occupy, Deliver, Missed}
 use Rattle.cycle_events.specs.declared.events.Event.{Event}
@@ -48,19 +48,6 @@ pub record IsFirst (play : Play) (e : Event) : Type 0 where
 
 -- ---- tests
 
-abbrev pub is_within_window : ℤ → ℤ → Bool
-is_within_window error window = int_le (pos 0) (error +ℤ window) && int_le error window
-
-abbrev pub is_in_step : Play → ℕ → Bool
-is_in_step play device = is_within_window (play.row.error device) (pos play.setup.plant.window)
-
-abbrev pub passes : WorldRow → Option ℕ → Bool
-passes row None = true
-passes row (Some link) = not (row.is_cut link)
-
-abbrev pub is_uncut : Play → ℕ → ℕ → Bool
-is_uncut play device port = passes play.row (link_number play.setup.plant device port)
-
 abbrev pub is_bit : ℕ → ℕ → Bool
 is_bit tx bit = not (bit_and tx (2 ^ bit) == 0)
 
@@ -93,7 +80,7 @@ arrive_at start frame (Some far) (Some hop) = event (start +ℤ pos hop) far.0.0
 -- a start causes an arrival, a hop later, where the link is not cut
 abbrev pub caused_by_start : Play → ℤ → ℕ → ℕ → ℕ → List Event
 caused_by_start play start device port frame =
-    if is_uncut play device port then
+    if is_uncut play.setup.plant play.row device port then
     arrive_at start frame (peer_of play.setup.plant device port) (hop_of play.setup.plant device port) else []
 
 -- when a device that has received a frame then starts it
@@ -111,7 +98,7 @@ starts_at play device frame came (Some e) =
 -- an arrival at a device in step causes a start by each port of the device's entry
 abbrev pub caused_by_arrival : Play → ℤ → ℕ → ℕ → List Event
 caused_by_arrival play came device frame =
-    if is_in_step play device then starts_at play device frame came (entry_at play.setup device frame) else []
+    if is_in_step play.setup.plant play.row device then starts_at play device frame came (entry_at play.setup device frame) else []
 
 abbrev pub causes_as : Play → Event → What → List Event
 causes_as play e Start = caused_by_start play e.at e.device.0 e.port.0 e.frame.0
@@ -133,7 +120,7 @@ delivered play e (Some entry) =
 
 abbrev pub arrived : Play → Event → List JournalRow
 arrived play e =
-    if is_in_step play e.device.0 then delivered play e (entry_at play.setup e.device.0 e.frame.0)
+    if is_in_step play.setup.plant play.row e.device.0 then delivered play e (entry_at play.setup e.device.0 e.frame.0)
     else Missed play.cycle e.device e.frame ∷ []
 
 abbrev pub rows_as : Play → Event → What → List JournalRow

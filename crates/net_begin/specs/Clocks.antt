@@ -2,7 +2,7 @@
 use Rattle.std.specs.Prelude.{ℕ, ◌*◌, Bool, ℤ, pos, ◌+ℤ◌}
 use Rattle.irt_base.specs.Cycle.{cycle_time}
 use Rattle.irt_base.specs.declared.plants.Plant.{Plant}
-use Rattle.cycle_events.specs.Events.{is_within_window}
+use Rattle.plan_rules.specs.World.{is_within_window}
 use Rattle.irt_world.specs.Rows.{error_in}
 use Rattle.irt_world.specs.declared.rows.Row.{Row}
 

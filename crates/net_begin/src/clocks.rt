@@ -2,7 +2,8 @@
 
 ghost use Rattle.std.specs.Prelude.{◌≡◌, ◌*◌, ◌^◌, ◌≤◌, pos, ◌+ℤ◌, int_le, ◌&&◌, All};
 ghost use Rattle.irt_base.specs.Cycle.{cycle_time};
-ghost use Rattle.cycle_events.specs.Events.{event, is_within_window};
+ghost use Rattle.plan_rules.specs.World.{is_within_window};
+ghost use Rattle.cycle_events.specs.Events.{event};
 ghost use Rattle.cycle_events.specs.declared.events.What.TheVariants.{Start};
 ghost use Rattle.irt_world.specs.Rows.{IsError};
 ghost use Rattle.net_begin.specs.Clocks.{begin_of, keeps_step};

@@ -6,7 +6,8 @@ use Rattle.std.proofs.lemmas.Bool.{ltb-false}
 use Rattle.std.proofs.lemmas.List.Folds.{find_at}
 use Rattle.std.proofs.lemmas.Option.{same_Some, slice_get_past}
 use Rattle.irt_base.specs.Wiring.{peer_of, hop_of}
-use Rattle.cycle_events.specs.Events.{Play, is_uncut, arrive_at, caused_by_start}
+use Rattle.plan_rules.specs.World.{is_uncut}
+use Rattle.cycle_events.specs.Events.{Play, arrive_at, caused_by_start}
 
 -- the item at the first place that passes is the first that does
 pub at_place : {A : Type 0} (p : A → Bool) (xs : List A) (n : ℕ) → position p xs ≡ Some n → slice_get xs n ≡ find p xs
@@ -28,7 +29,7 @@ past_all {A} p xs is =
     by_test false same none = let past = ltb-false (position_or_len p xs) (length xs) same in slice_get_past xs (position_or_len p xs) (omega arith)
 
 -- what a start causes, by the test of its link
-pub caused : (play : Play) (start : ℤ) (device port frame : ℕ) (uncut : Bool) → uncut ≡ is_uncut play device port →
+pub caused : (play : Play) (start : ℤ) (device port frame : ℕ) (uncut : Bool) → uncut ≡ is_uncut play.setup.plant play.row device port →
     cond uncut (arrive_at start frame (peer_of play.setup.plant device port) (hop_of play.setup.plant device port)) [] ≡ caused_by_start play start device port frame
 caused play start device port frame uncut is =
     ap (λ b. cond b (arrive_at start frame (peer_of play.setup.plant device port) (hop_of play.setup.plant device port)) []) is

@@ -7,7 +7,8 @@ ghost use Rattle.irt_base.specs.declared.blocks.Bundle.{Bundle};
 ghost use Rattle.irt_base.specs.declared.plants.Demand.{Demand};
 ghost use Rattle.plan_rules.specs.Plan.{IsPlan};
 ghost use Rattle.plan_rules.specs.Tree.{demand_of};
-ghost use Rattle.cycle_events.specs.Events.{is_uncut, arrive_at, caused_by_start};
+ghost use Rattle.plan_rules.specs.World.{is_uncut};
+ghost use Rattle.cycle_events.specs.Events.{arrive_at, caused_by_start};
 ghost use Rattle.irt_world.specs.Forwardings.{forwardings, number_in};
 ghost use Rattle.irt_world.specs.Rows.{is_cut_in};
 ghost use Rattle.net_starts.specs.Released.{IsSmallTime};
@@ -120,7 +121,7 @@ impl Site {
 
     fn is_uncut(&self, row: &Row, device: DevId, port: PortNo) -> bool
         ensures { (bundles : List Bundle) (k : ℕ) →
-            result ≡ is_uncut (play_in self.now.plant bundles row.now k) device.0 port.0 }
+            result ≡ is_uncut self.now.plant (world_row self.now.plant bundles row.now) device.0 port.0 }
     {
         match self.links.link_number(device, port) {
             None => true,

@@ -14,7 +14,7 @@ use Rattle.irt_base.specs.declared.numbers.PortNo.{PortNo}
 use Rattle.irt_base.specs.declared.plants.Plant.{Plant}
 use Rattle.plan_rules.specs.Plan.{IsPlan}
 use Rattle.plan_rules.specs.Places.{IsAccepted}
-use Rattle.plan_rules.specs.World.{WorldRow}
+use Rattle.plan_rules.specs.World.{WorldRow, is_in_step, is_uncut}
 use Rattle.period_gate.specs.declared.parcels.Sent.{Sent}
 use Rattle.period_gate.specs.Gate.{Waiting}
 use Rattle.period_gate.specs.SentList.{sent_of, IsTimed, AreInOrder}
@@ -25,7 +25,6 @@ use Rattle.cycle_rows.specs.Parcels.{IsFreeIn, IsParcelRow, AreParcelRows}
 use Rattle.cycle_rows.specs.Rows.{cycle_of}
 use Rattle.parcel_rules.specs.Steps.{Step}
 use Rattle.parcel_rules.specs.Loads.{Gates, gate_at, Loads, Offers, offered}
-use Rattle.parcel_rules.specs.Outside.{is_in_step, is_uncut}
 use Rattle.parcel_rules.specs.Cycle.{all_ports, begun_at, sends, loads_at}
 use Rattle.parcel_rules.specs.Rows.{true_time, sent_row, lost_row, sent_rows_at, lost_rows_at, sent_rows, lost_rows, rows_in, parcel_rows}
 use Rattle.parcel_rules.proofs.Lists.{everywhere, All-flat_map, AllPairs-nil, AllPairs-append, AllPairs-map, AllPairs-weaker, AllPairs-flat_map, Across}

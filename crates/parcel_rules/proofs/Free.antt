@@ -23,14 +23,13 @@ use Rattle.plan_rules.specs.Headers.{IsHeader}
 use Rattle.plan_rules.specs.Periods.{IsOrdered, AreOrdered}
 use Rattle.plan_rules.specs.Plan.{IsPlan}
 use Rattle.plan_rules.specs.Places.{IsAccepted, place_of}
-use Rattle.plan_rules.specs.World.{WorldRow, IsWithinWindow}
+use Rattle.plan_rules.specs.World.{WorldRow, IsWithinWindow, is_within_window, is_in_step}
 use Rattle.period_gate.specs.declared.parcels.Sent.{Sent}
 use Rattle.period_gate.specs.Gate.{begin_of}
 use Rattle.period_gate.specs.SentList.{IsTimed}
 use Rattle.irt_switch.specs.Begin.{parcel_limit}
 use Rattle.cycle_rows.specs.Parcels.{IsFreeIn}
 use Rattle.parcel_rules.specs.Steps.{Step}
-use Rattle.parcel_rules.specs.Outside.{is_within_window, is_in_step}
 use Rattle.parcel_rules.specs.Rows.{true_time}
 use Rattle.parcel_rules.proofs.Lists.{each_at}
 

@@ -15,7 +15,7 @@ use Rattle.irt_base.specs.declared.plants.Plant.{Plant}
 use Rattle.irt_base.specs.declared.plants.Traffic.{Traffic}
 use Rattle.irt_route.specs.Walks.{IsBestWalk}
 use Rattle.plant_rules.specs.Meets.{MeetsRules}
-use Rattle.plan_rules.specs.World.{WorldRow}
+use Rattle.plan_rules.specs.World.{WorldRow, is_uncut}
 use Rattle.period_gate.specs.declared.parcels.Parcel.{Parcel}
 use Rattle.period_gate.specs.declared.parcels.Sent.{Sent}
 use Rattle.cycle_rows.specs.declared.rows.JournalRow.{JournalRow}
@@ -24,7 +24,6 @@ use Rattle.parcel_rules.specs.declared.handed.Handed.{Handed}
 use Rattle.parcel_rules.specs.Cycle.{all_ports, sends, after_row, loads_at}
 use Rattle.parcel_rules.specs.Loads.{Gates, Loads, Offers, offered}
 use Rattle.parcel_rules.specs.Made.{made_in, made_at_source, handed_to, parcel_of}
-use Rattle.parcel_rules.specs.Outside.{is_uncut}
 use Rattle.parcel_rules.specs.Room.{links_left, links_to_go, rows_to_come, handed_rows, pending, most_rows}
 use Rattle.parcel_rules.specs.Rows.{sent_row, lost_row, sent_rows_at, lost_rows_at, sent_rows, lost_rows, rows_after, rows_in, parcel_rows}
 use Rattle.parcel_rules.specs.Steps.{Step, steps_from}

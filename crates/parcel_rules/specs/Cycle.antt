@@ -11,7 +11,7 @@ use Rattle.irt_base.specs.declared.numbers.DevId.{DevId}
 use Rattle.irt_base.specs.declared.numbers.PortNo.{PortNo}
 use Rattle.irt_base.specs.declared.plants.Device.{Device}
 use Rattle.irt_base.specs.declared.plants.Plant.{Plant}
-use Rattle.plan_rules.specs.World.{WorldRow}
+use Rattle.plan_rules.specs.World.{WorldRow, is_in_step, is_uncut}
 use Rattle.period_gate.specs.declared.parcels.Sent.{Sent}
 use Rattle.period_gate.specs.Gate.{Waiting}
 use Rattle.period_gate.specs.SentList.{sent_of, left_of}
@@ -19,7 +19,6 @@ use Rattle.irt_switch.specs.Begin.{begun_gate}
 use Rattle.parcel_rules.specs.declared.handed.Handed.{Handed}
 use Rattle.parcel_rules.specs.Made.{handed_to}
 use Rattle.parcel_rules.specs.Loads.{Gates, gate_at, Loads, no_loads, offered}
-use Rattle.parcel_rules.specs.Outside.{is_in_step, is_uncut}
 use Rattle.parcel_rules.specs.Steps.{Step}
 
 -- ---- ports

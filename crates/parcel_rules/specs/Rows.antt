@@ -4,13 +4,12 @@ use Rattle.irt_base.specs.Cycle.{cycle_time}
 use Rattle.irt_base.specs.declared.blocks.Bundle.{Bundle}
 use Rattle.irt_base.specs.declared.numbers.PortNo.{PortNo}
 use Rattle.irt_base.specs.declared.plants.Plant.{Plant}
-use Rattle.plan_rules.specs.World.{WorldRow}
+use Rattle.plan_rules.specs.World.{WorldRow, is_uncut}
 use Rattle.period_gate.specs.declared.parcels.Sent.{Sent}
 use Rattle.cycle_rows.specs.declared.rows.JournalRow.{JournalRow}
 use Rattle.cycle_rows.specs.declared.rows.JournalRow.TheVariants.{Sent as SentRow, Lost}
 use Rattle.parcel_rules.specs.Cycle.{all_ports, sends, loads_at}
 use Rattle.parcel_rules.specs.Loads.{Gates, Loads, Offers, offered}
-use Rattle.parcel_rules.specs.Outside.{is_uncut}
 use Rattle.parcel_rules.specs.Steps.{Step}
 
 -- a local time of a device in a cycle, as true time in ns

@@ -16,7 +16,7 @@ use Rattle.plan_rules.specs.Places.{IsAccepted}
 use Rattle.plan_rules.specs.Plan.{setup_of}
 use Rattle.plan_rules.specs.Tree.{demand_of, Consumes}
 use Rattle.plan_rules.specs.Way.{entry_at, Leaves}
-use Rattle.plan_rules.specs.World.{WorldRow, IsInStep}
+use Rattle.plan_rules.specs.World.{WorldRow, IsInStep, is_in_step}
 use Rattle.irt_switch.specs.declared.action.Action.{Action}
 use Rattle.irt_switch.specs.declared.action.Action.TheVariants.{Forward, Dropped}
 use Rattle.irt_switch.specs.Arrive.{Reception, action_of}
@@ -24,7 +24,7 @@ use Rattle.irt_switch.specs.Played.{IsToldOf, IsPlayed, GoesItsWay, TakesBridge}
 use Rattle.cycle_rows.specs.declared.rows.JournalRow.TheVariants.{Occupy, Deliver, Missed}
 use Rattle.cycle_events.specs.declared.events.Event.{Event}
 use Rattle.cycle_events.specs.declared.events.What.TheVariants.{Start, Arrive}
-use Rattle.cycle_events.specs.Events.{Play, arrival_of, Happens, HappensAs, is_in_step, is_bit, ports_in, event, start_after, starts_at, delivered, occupied, causes, causes_as, rows_of, rows_as}
+use Rattle.cycle_events.specs.Events.{Play, arrival_of, Happens, HappensAs, is_bit, ports_in, event, start_after, starts_at, delivered, occupied, causes, causes_as, rows_of, rows_as}
 use Rattle.cycle_events.specs.Run.{play_of, CausesHappen}
 use Rattle.cycle_rows.proofs.Lists.{Contains-here, Contains-later}
 use Rattle.cycle_events.proofs.Lists.{map_has}
@@ -79,7 +79,7 @@ module _ (plant : Plant) (bundles : List Bundle) (accepted : IsAccepted plant bu
   -- ---- the answer of a device in step
 
   -- where a frame leaves, the answer's time is that of the start which the arrival causes
-  same_time : (h : Event) (from : Entry) → IsArrival (setup_of plant bundles) row from (arrival_of play h) → is_in_step play h.device.0 ≡ true → (at : ℤ) (ports : ℕ) (here : Bool) →
+  same_time : (h : Event) (from : Entry) → IsArrival (setup_of plant bundles) row from (arrival_of play h) → is_in_step play.setup.plant play.row h.device.0 ≡ true → (at : ℤ) (ports : ℕ) (here : Bool) →
       (g : GoesItsWay (setup_of plant bundles) row (arrival_of play h) at ports here) → (port : ℕ) → Contains (ports_in g.e.tx) port →
       true_of play h.device.0 at ≡ start_after play h.device.0 h.frame.0 g.e h.at
   same_time h from is step at ports here g port among =
@@ -88,7 +88,7 @@ module _ (plant : Plant) (bundles : List Bundle) (accepted : IsAccepted plant bu
       let arrive : Event = event h.at h.device.0 h.port.0 h.frame.0 Arrive in
       let then = start_after play h.device.0 h.frame.0 g.e h.at in
       let caused : Contains (causes play arrive) (event then h.device.0 port h.frame.0 Start) =
-      start_among (is_in_step play h.device.0) (entry_at (setup_of plant bundles) h.device.0 h.frame.0) step g.stands in
+      start_among (is_in_step play.setup.plant play.row h.device.0) (entry_at (setup_of plant bundles) h.device.0 h.frame.0) step g.stands in
       let also : IsSentAt (setup_of plant bundles) row k h.device.0 port h.frame.0 then =
       All-contains (Happens play) (causes play arrive) (event then h.device.0 port h.frame.0 Start) (causes_hold arrive (from, is)) caused in
       let one = starts h.device.0 h.frame.0 sent.live in
@@ -98,7 +98,7 @@ module _ (plant : Plant) (bundles : List Bundle) (accepted : IsAccepted plant bu
           Contains (cond b (starts_at play h.device.0 h.frame.0 h.at o) []) (event (start_after play h.device.0 h.frame.0 g.e h.at) h.device.0 port h.frame.0 Start)
       start_among b o p q = rw (p, q) (map_has (λ n. event (start_after play h.device.0 h.frame.0 g.e h.at) h.device.0 n h.frame.0 Start) (ports_in g.e.tx) port among)
 
-  forward_causes : (h : Event) (from : Entry) → IsArrival (setup_of plant bundles) row from (arrival_of play h) → is_in_step play h.device.0 ≡ true → (at : ℤ) (ports : ℕ) (here : Bool) →
+  forward_causes : (h : Event) (from : Entry) → IsArrival (setup_of plant bundles) row from (arrival_of play h) → is_in_step play.setup.plant play.row h.device.0 ≡ true → (at : ℤ) (ports : ℕ) (here : Bool) →
       (g : GoesItsWay (setup_of plant bundles) row (arrival_of play h) at ports here) →
       starts_of (true_of play h.device.0 at) h.device.0 h.frame.0 ports ≡ causes_as play h Arrive
   forward_causes h from is step at ports here g =
@@ -106,13 +106,13 @@ module _ (plant : Plant) (bundles : List Bundle) (accepted : IsAccepted plant bu
       ∙ map_same (λ port. event (true_of play h.device.0 at) h.device.0 port h.frame.0 Start)
       (λ port. event (start_after play h.device.0 h.frame.0 g.e h.at) h.device.0 port h.frame.0 Start) (ports_in g.e.tx)
       (λ port among. ap (λ t. event t h.device.0 port h.frame.0 Start) (same_time h from is step at ports here g port among))
-      ∙ sym (caused (is_in_step play h.device.0) (entry_at (setup_of plant bundles) h.device.0 h.frame.0) step g.stands)
+      ∙ sym (caused (is_in_step play.setup.plant play.row h.device.0) (entry_at (setup_of plant bundles) h.device.0 h.frame.0) step g.stands)
     where
       caused : (b : Bool) (o : Option Entry) → b ≡ true → o ≡ Some g.e →
           cond b (starts_at play h.device.0 h.frame.0 h.at o) [] ≡ map (λ port. event (start_after play h.device.0 h.frame.0 g.e h.at) h.device.0 port h.frame.0 Start) (ports_in g.e.tx)
       caused b o p q = rw (p, q) refl
 
-  forward_rows : (h : Event) (demand : Demand) → demand_of plant h.frame.0 ≡ Some demand → is_in_step play h.device.0 ≡ true → (at : ℤ) (ports : ℕ) (here : Bool) →
+  forward_rows : (h : Event) (demand : Demand) → demand_of plant h.frame.0 ≡ Some demand → is_in_step play.setup.plant play.row h.device.0 ≡ true → (at : ℤ) (ports : ℕ) (here : Bool) →
       (g : GoesItsWay (setup_of plant bundles) row (arrival_of play h) at ports here) →
       written_by play h demand.length (Forward at ports here) ≡ rows_as play h Arrive
   forward_rows h demand demanded step at ports here g =
@@ -123,14 +123,14 @@ module _ (plant : Plant) (bundles : List Bundle) (accepted : IsAccepted plant bu
       (bit_true g.e.tx 0) (bit_passed g.e.tx 0) (λ b. g.kept.1 (subst (λ d. Consumes d h.device.0) same (known.kept.0 b))) (λ t. t) in
       let length : demand.length ≡ g.e.data_length = sym (demanded_length plant bundles accepted h.device.0 h.frame.0 demand g.e demanded g.stands) in
       (λ i. cond (keeps i) (Deliver k h.device h.frame (h.at +ℤ pos (wire_time (length i))) ∷ []) [])
-      ∙ sym (given (is_in_step play h.device.0) (entry_at (setup_of plant bundles) h.device.0 h.frame.0) step g.stands)
+      ∙ sym (given (is_in_step play.setup.plant play.row h.device.0) (entry_at (setup_of plant bundles) h.device.0 h.frame.0) step g.stands)
     where
       given : (b : Bool) (o : Option Entry) → b ≡ true → o ≡ Some g.e →
           cond b (delivered play h o) (Missed k h.device h.frame ∷ []) ≡ cond (is_bit g.e.tx 0) (Deliver k h.device h.frame (h.at +ℤ pos (wire_time g.e.data_length)) ∷ []) []
       given b o p q = rw (p, q) refl
 
   played : (h : Event) (from : Entry) (demand : Demand) → IsArrival (setup_of plant bundles) row from (arrival_of play h) → demand_of plant h.frame.0 ≡ Some demand →
-      is_in_step play h.device.0 ≡ true → (action : Action) → IsPlayed (setup_of plant bundles) row (arrival_of play h) action →
+      is_in_step play.setup.plant play.row h.device.0 ≡ true → (action : Action) → IsPlayed (setup_of plant bundles) row (arrival_of play h) action →
       (brought_about play h action ≡ causes_as play h Arrive) × (written_by play h demand.length action ≡ rows_as play h Arrive)
   played h from demand is demanded step (Dropped cause) never = absurd never
   played h from demand is demanded step (Forward at ports here) g = (forward_causes h from is step at ports here g, forward_rows h demand demanded step at ports here g)
@@ -152,12 +152,12 @@ module _ (plant : Plant) (bundles : List Bundle) (accepted : IsAccepted plant bu
       (bundle : Bundle) (r : Reception) (bridge : ℕ) → slice_get bundles a.device ≡ Some bundle → IsToldOf plant row from a r → TakesBridge (setup_of plant bundles) row a bridge →
       IsPlayed (setup_of plant bundles) row a (action_of bundle a.cycle true r bridge)) where
     answered : (h : Event) (from : Entry) → IsArrival (setup_of plant bundles) row from (arrival_of play h) → (bundle : Bundle) → slice_get bundles h.device.0 ≡ Some bundle →
-        (r : Reception) → (told : Tells play h r) → (bridge : ℕ) → TakesBridge (setup_of plant bundles) row (arrival_of play h) bridge → (b : Bool) → is_in_step play h.device.0 ≡ b →
+        (r : Reception) → (told : Tells play h r) → (bridge : ℕ) → TakesBridge (setup_of plant bundles) row (arrival_of play h) bridge → (b : Bool) → is_in_step play.setup.plant play.row h.device.0 ≡ b →
         (brought_about play h (action_of bundle k b r bridge) ≡ causes_as play h Arrive) × (written_by play h told.demand.length (action_of bundle k b r bridge) ≡ rows_as play h Arrive)
     answered h from is bundle held r told bridge takes true step =
         played h from told.demand is told.demanded step (action_of bundle k true r bridge)
         (switched from (arrival_of play h) refl is (step_passed play h.device.0 step) bundle r bridge held (told_of h from is r told) takes)
-    answered h from is bundle held r told bridge takes false off = (sym (nothing_caused (is_in_step play h.device.0) off), sym (missed (is_in_step play h.device.0) off))
+    answered h from is bundle held r told bridge takes false off = (sym (nothing_caused (is_in_step play.setup.plant play.row h.device.0) off), sym (missed (is_in_step play.setup.plant play.row h.device.0) off))
       where
         nothing_caused : (b : Bool) → b ≡ false → cond b (starts_at play h.device.0 h.frame.0 h.at (entry_at (setup_of plant bundles) h.device.0 h.frame.0)) [] ≡ []
         nothing_caused b p = rw p refl
@@ -170,10 +170,10 @@ module _ (plant : Plant) (bundles : List Bundle) (accepted : IsAccepted plant bu
 
     pub answer : (h : Event) → h.what ≡ Arrive → Happens play h → (bundle : Bundle) → slice_get bundles h.device.0 ≡ Some bundle → (r : Reception) → (told : Tells play h r) →
         (bridge : ℕ) → TakesBridge (setup_of plant bundles) row (arrival_of play h) bridge →
-        IsAnswer play h told.demand.length (action_of bundle k (is_in_step play h.device.0) r bridge)
+        IsAnswer play h told.demand.length (action_of bundle k (is_in_step play.setup.plant play.row h.device.0) r bridge)
     answer h what is bundle held r told bridge takes =
         let (from, arrives) = happens_as h what is in
-        let both = answered h from arrives bundle held r told bridge takes (is_in_step play h.device.0) refl in
+        let both = answered h from arrives bundle held r told bridge takes (is_in_step play.setup.plant play.row h.device.0) refl in
         record { causes = both.0 ∙ sym (ap (causes_as play h) what); rows = both.1 ∙ sym (ap (rows_as play h) what) }
 
   -- ---- starts

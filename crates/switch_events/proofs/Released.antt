@@ -16,7 +16,7 @@ use Rattle.plan_rules.specs.Network.{EntriesAreDemanded, IsSentAt}
 use Rattle.plan_rules.specs.Once.{StartsOnce}
 use Rattle.plan_rules.specs.Plan.{IsPlan, setup_of}
 use Rattle.plan_rules.specs.Way.{Setup, entry_at, IsLive, provided, forwarded}
-use Rattle.plan_rules.specs.World.{WorldRow, IsInStep}
+use Rattle.plan_rules.specs.World.{WorldRow, IsInStep, is_in_step}
 use Rattle.irt_switch.specs.declared.action.Outgoing.{Outgoing}
 use Rattle.irt_switch.specs.Begin.{IsToRelease}
 use Rattle.irt_switch.specs.Release.{IsReleased, IsReleasedBefore, IsReleaseList, outgoing_of}
@@ -26,7 +26,7 @@ use Rattle.irt_switch.proofs.Finding.{AreAscending, ascending, tail_up}
 use Rattle.irt_switch.proofs.Played.{block_entry}
 use Rattle.cycle_events.specs.declared.events.Event.{Event}
 use Rattle.cycle_events.specs.declared.events.What.TheVariants.{Start}
-use Rattle.cycle_events.specs.Events.{Play, IsFirst, is_in_step, ports_in, event}
+use Rattle.cycle_events.specs.Events.{Play, IsFirst, ports_in, event}
 use Rattle.cycle_events.specs.Places.{starts_by}
 use Rattle.cycle_events.specs.Run.{play_of, IsBegun}
 use Rattle.cycle_rows.proofs.Lists.{nothing, Contains-here, Contains-later, Contains-cases, AllPairs-head, AllPairs-tail, AllPairs-then, all_of}
@@ -114,7 +114,7 @@ module _ (plant : Plant) (bundles : List Bundle) (plan : IsPlan plant bundles) (
       subst (λ n. entry_at (setup_of plant bundles) device n ≡ Some is.e) (sym frame) (own_entry device b held is.e is.stands) in
       record { start = refl; sent = sent; own = ap (λ (x : Entry). x.rx_port) (same_Some sent.entry is.e (sym sent.stands ∙ mine)) ∙ is.provided }
 
-  list_first : (device : ℕ) (b : Bundle) → slice_get bundles device ≡ Some b → (s : Bool) → is_in_step play device ≡ s → (list : List Outgoing) → IsToRelease b k s list →
+  list_first : (device : ℕ) (b : Bundle) → slice_get bundles device ≡ Some b → (s : Bool) → is_in_step play.setup.plant play.row device ≡ s → (list : List Outgoing) → IsToRelease b k s list →
       (x : Event) → Contains (starts_released play device list) x → IsFirst play x
   list_first device b held false step list none x is =
       absurd (nothing x (subst (λ l. Contains (starts_released play device l) x) none is))
@@ -124,19 +124,19 @@ module _ (plant : Plant) (bundles : List Bundle) (plan : IsPlan plant bundles) (
       subst (IsFirst play) same (released_first device b held (step_passed play device step) o ((exactly.exactly o).0 among) port has)
 
   lists_first : (lists : List (List Outgoing)) (n : ℕ) → ((d : ℕ) (b : Bundle) (list : List Outgoing) → slice_get bundles (n + d) ≡ Some b → slice_get lists d ≡ Some list →
-      IsToRelease b k (is_in_step play (n + d)) list) → n + length lists ≤ length bundles → (x : Event) → Contains (first_from play n lists) x → IsFirst play x
+      IsToRelease b k (is_in_step play.setup.plant play.row (n + d)) list) → n + length lists ≤ length bundles → (x : Event) → Contains (first_from play n lists) x → IsFirst play x
   lists_first [] n each fits x is = absurd (nothing x is)
   lists_first (list ∷ lists) n each fits x is = elim (Contains-append_cases (starts_released play n list) (first_from play (n + 1) lists) x is) [
     | inl here ↦
         let (b, held) = some_at bundles n (omega arith) in
         let zero_more : n + 0 ≡ n = omega arith in
-        let to_release : IsToRelease b k (is_in_step play n) list =
-        subst (λ m. IsToRelease b k (is_in_step play m) list) zero_more (each 0 b list (subst (λ m. slice_get bundles m ≡ Some b) (sym zero_more) held) refl) in
-        list_first n b held (is_in_step play n) refl list to_release x here
+        let to_release : IsToRelease b k (is_in_step play.setup.plant play.row n) list =
+        subst (λ m. IsToRelease b k (is_in_step play.setup.plant play.row m) list) zero_more (each 0 b list (subst (λ m. slice_get bundles m ≡ Some b) (sym zero_more) held) refl) in
+        list_first n b held (is_in_step play.setup.plant play.row n) refl list to_release x here
     | inr later ↦
         lists_first lists (n + 1) (λ d b l held at.
         let same : n + 1 + d ≡ n + suc d = omega arith in
-        subst (λ m. IsToRelease b k (is_in_step play m) l) (sym same) (each (suc d) b l (subst (λ m. slice_get bundles m ≡ Some b) same held) at))
+        subst (λ m. IsToRelease b k (is_in_step play.setup.plant play.row m) l) (sym same) (each (suc d) b l (subst (λ m. slice_get bundles m ≡ Some b) same held) at))
         (omega arith) x later
   ]
 
@@ -170,7 +170,7 @@ module _ (plant : Plant) (bundles : List Bundle) (plan : IsPlan plant bundles) (
       let known = entries device frame s.entry s.stands in
       let o = outgoing_of s.entry in
       let is : IsReleased b k o = all_started device port frame at b held s own in
-      let has = among_released b list (is_in_step play device) (step_true play device step) (released.each device b list held there) o is in
+      let has = among_released b list (is_in_step play.setup.plant play.row device) (step_true play device step) (released.each device b list held there) o is in
       let set : IsBitSet o.ports port = (ports_bits s.entry port).1 s.leaves in
       let sent = started device port b o held step is set in
       let named : o.frame.0 ≡ frame = known.named in
@@ -253,17 +253,17 @@ module _ (plant : Plant) (bundles : List Bundle) (plan : IsPlan plant bundles) (
     none : d < n → count_by (starts_by d p f) (first_from play n lists) ≡ 0
 
   lists_counted : (lists : List (List Outgoing)) (n : ℕ) → ((i : ℕ) (b : Bundle) (list : List Outgoing) → slice_get bundles (n + i) ≡ Some b → slice_get lists i ≡ Some list →
-      IsToRelease b k (is_in_step play (n + i)) list) → n + length lists ≤ length bundles → (d p f : ℕ) → AreFew n d p f lists
+      IsToRelease b k (is_in_step play.setup.plant play.row (n + i)) list) → n + length lists ≤ length bundles → (d p f : ℕ) → AreFew n d p f lists
   lists_counted [] n each fits d p f = record { one = omega arith; none = λ low. refl }
   lists_counted (list ∷ lists) n each fits d p f =
       let (b, held) = some_at bundles n (omega arith) in
       let zero_more : n + 0 ≡ n = omega arith in
-      let to_release : IsToRelease b k (is_in_step play n) list =
-      subst (λ m. IsToRelease b k (is_in_step play m) list) zero_more (each 0 b list (subst (λ m. slice_get bundles m ≡ Some b) (sym zero_more) held) refl) in
-      let here = to_release_counted n b held (is_in_step play n) list to_release d p f in
+      let to_release : IsToRelease b k (is_in_step play.setup.plant play.row n) list =
+      subst (λ m. IsToRelease b k (is_in_step play.setup.plant play.row m) list) zero_more (each 0 b list (subst (λ m. slice_get bundles m ≡ Some b) (sym zero_more) held) refl) in
+      let here = to_release_counted n b held (is_in_step play.setup.plant play.row n) list to_release d p f in
       let more = lists_counted lists (n + 1) (λ i c l at is.
       let same : n + 1 + i ≡ n + suc i = omega arith in
-      subst (λ m. IsToRelease c k (is_in_step play m) l) (sym same) (each (suc i) c l (subst (λ m. slice_get bundles m ≡ Some c) same at) is))
+      subst (λ m. IsToRelease c k (is_in_step play.setup.plant play.row m) l) (sym same) (each (suc i) c l (subst (λ m. slice_get bundles m ≡ Some c) same at) is))
       (omega arith) d p f in
       let whole = sum_by-append (λ x. cond (starts_by d p f x) 1 0) (starts_released play n list) (first_from play (n + 1) lists) in
       elim (cases_eq n d) [
@@ -280,10 +280,10 @@ module _ (plant : Plant) (bundles : List Bundle) (plan : IsPlan plant bundles) (
   -- ---- all of it
 
   from_zero : (lists : List (List Outgoing)) → AreReleased bundles play lists → (d : ℕ) (b : Bundle) (list : List Outgoing) → slice_get bundles (0 + d) ≡ Some b → slice_get lists d ≡ Some list →
-      IsToRelease b k (is_in_step play (0 + d)) list
+      IsToRelease b k (is_in_step play.setup.plant play.row (0 + d)) list
   from_zero lists released d b list held at =
       let same : 0 + d ≡ d = omega arith in
-      subst (λ m. IsToRelease b k (is_in_step play m) list) (sym same) (released.each d b list (subst (λ m. slice_get bundles m ≡ Some b) same held) at)
+      subst (λ m. IsToRelease b k (is_in_step play.setup.plant play.row m) list) (sym same) (released.each d b list (subst (λ m. slice_get bundles m ≡ Some b) same held) at)
 
   pub begun : (lists : List (List Outgoing)) → AreReleased bundles play lists → IsBegun play (first_from play 0 lists)
   begun lists released =

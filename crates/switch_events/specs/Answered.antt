@@ -8,7 +8,7 @@ use Rattle.plan_rules.specs.Places.{IsAccepted}
 use Rattle.plan_rules.specs.Plan.{IsPlan, setup_of}
 use Rattle.plan_rules.specs.Tree.{demand_of}
 use Rattle.plan_rules.specs.Way.{IsInRange}
-use Rattle.plan_rules.specs.World.{WorldRow}
+use Rattle.plan_rules.specs.World.{WorldRow, is_in_step}
 use Rattle.rtc3_frame.specs.Frame.{Fields}
 use Rattle.irt_switch.specs.declared.action.Action.{Action}
 use Rattle.irt_switch.specs.declared.action.Action.TheVariants.{Forward, Dropped}
@@ -18,7 +18,7 @@ use Rattle.cycle_rows.specs.declared.rows.JournalRow.{JournalRow}
 use Rattle.cycle_rows.specs.declared.rows.JournalRow.TheVariants.{Occupy, Deliver, Missed}
 use Rattle.cycle_events.specs.declared.events.Event.{Event}
 use Rattle.cycle_events.specs.declared.events.What.TheVariants.{Start, Arrive}
-use Rattle.cycle_events.specs.Events.{Play, Happens, arrival_of, is_in_step, ports_in, event, causes, rows_of}
+use Rattle.cycle_events.specs.Events.{Play, Happens, arrival_of, ports_in, event, causes, rows_of}
 use Rattle.cycle_events.specs.Run.{play_of}
 
 -- the starts of a frame by a set of ports
@@ -66,7 +66,7 @@ ForSwitches Fact = (plant : Plant) (bundles : List Bundle) → IsPlan plant bund
 abbrev pub AnswersAreEvents : List Bundle → Play → Type 0
 AnswersAreEvents bundles play = (e : Event) → e.what ≡ Arrive → Happens play e → (bundle : Bundle) → slice_get bundles e.device.0 ≡ Some bundle →
     (r : Reception) → (told : Tells play e r) → (bridge : ℕ) → TakesBridge play.setup play.row (arrival_of play e) bridge →
-    IsAnswer play e told.demand.length (action_of bundle play.cycle (is_in_step play e.device.0) r bridge)
+    IsAnswer play e told.demand.length (action_of bundle play.cycle (is_in_step play.setup.plant play.row e.device.0) r bridge)
 
 -- A start gives an occupation, for as long as the frame's demanded length takes.
 abbrev pub StartsOccupy : List Bundle → Play → Type 0

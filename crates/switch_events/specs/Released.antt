@@ -5,7 +5,8 @@ use Rattle.irt_base.specs.declared.blocks.Bundle.{Bundle}
 use Rattle.irt_switch.specs.declared.action.Outgoing.{Outgoing}
 use Rattle.irt_switch.specs.Begin.{IsToRelease}
 use Rattle.cycle_events.specs.declared.events.Event.{Event}
-use Rattle.cycle_events.specs.Events.{Play, is_in_step}
+use Rattle.plan_rules.specs.World.{is_in_step}
+use Rattle.cycle_events.specs.Events.{Play}
 use Rattle.cycle_events.specs.Run.{IsBegun}
 use Rattle.switch_events.specs.Answered.{starts_of, true_of}
 
@@ -22,7 +23,7 @@ first_from play device (list ∷ more) = starts_released play device list ++ fir
 pub record AreReleased (bundles : List Bundle) (play : Play) (released : List (List Outgoing)) : Type 0 where
   pub count : length released ≡ length bundles
   pub each : (device : ℕ) (bundle : Bundle) (list : List Outgoing) → slice_get bundles device ≡ Some bundle → slice_get released device ≡ Some list →
-      IsToRelease bundle play.cycle (is_in_step play device) list
+      IsToRelease bundle play.cycle (is_in_step play.setup.plant play.row device) list
 
 -- A run of the cycle begins with that.
 abbrev pub ReleasesAreFirst : List Bundle → Play → Type 0
