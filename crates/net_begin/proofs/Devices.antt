@@ -16,7 +16,7 @@ use Rattle.cycle_events.specs.Events.{event}
 use Rattle.event_queue.specs.Waiting.{Waiting}
 use Rattle.net_starts.specs.Released.{starts_from}
 use Rattle.net_begin.specs.Begun.{HaveBegun, released, starts_of_all}
-use Rattle.plan_rules.specs.World.{is_in_step}
+use Rattle.net_begin.specs.Clocks.{keeps_step}
 
 at_set : {A : Type 0} (xs : List A) (place index : ℕ) (x : A) → index ≢ place → slice_get (set xs place x) index ≡ slice_get xs index
 at_set xs place index x other =

@@ -7,7 +7,7 @@ use Rattle.irt_switch.specs.State.{SwitchState}
 use Rattle.irt_switch.specs.declared.action.Outgoing.{Outgoing}
 use Rattle.irt_world.specs.declared.rows.Row.{Row}
 use Rattle.net_starts.specs.Released.{IsSmallTime, starts_from}
-use Rattle.plan_rules.specs.World.{is_in_step}
+use Rattle.net_begin.specs.Clocks.{keeps_step}
 
 -- Each switch has begun the cycle, in step or not by its own clock.
 pub record HaveBegun (plant : Plant) (row : Row) (k : ℕ) (old new : List SwitchState) : Type 0 where

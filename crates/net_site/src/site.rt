@@ -10,7 +10,7 @@ ghost use Rattle.plan_rules.specs.Tree.{demand_of};
 ghost use Rattle.plan_rules.specs.World.{is_uncut};
 ghost use Rattle.cycle_events.specs.Events.{arrive_at, caused_by_start};
 ghost use Rattle.irt_world.specs.Forwardings.{forwardings, number_in};
-ghost use Rattle.irt_world.specs.Rows.{is_cut_in};
+ghost use Rattle.irt_world.specs.Rows.{is_cut_in, world_row};
 ghost use Rattle.net_starts.specs.Released.{IsSmallTime};
 ghost use Rattle.net_site.specs.Site.{play_in};
 
