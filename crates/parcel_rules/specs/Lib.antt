@@ -1,4 +1,3 @@
-pub mod Outside
 pub mod Made
 pub mod Steps
 pub mod Loads
