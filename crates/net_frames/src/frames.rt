@@ -5,7 +5,7 @@ ghost use Rattle.irt_base.specs.declared.limits.TheConstants.{MAX_CYCLES};
 ghost use Rattle.plan_rules.specs.Plan.{setup_of};
 ghost use Rattle.net_begin.specs.Begun.{released};
 ghost use Rattle.net_frames.specs.Begun.{AllHaveBegun};
-ghost use Rattle.net_frames.specs.Bytes.{AreFramesOf};
+ghost use Rattle.cycle_frames.specs.Bytes.{AreFramesOf};
 ghost use Rattle.net_frames.specs.Frames.{GrowsByFrames, IsReadyFor, most_frames};
 ghost use Rattle.net_site.specs.Site.{IsPlayedAt, bundles_of};
 
