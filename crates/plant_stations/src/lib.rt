@@ -1,0 +1,5 @@
+//! All stations of a plant: what the devices' providers load into the frames of a cycle, and what the applications'
+//! devices hold of the frames that come.
+#![tactic(auto)]
+
+pub mod stations;
