@@ -1,0 +1,4 @@
+//! Runs of an accepted plan over a world, with the plant's applications.
+#![tactic(auto)]
+
+pub mod lockstep;
