@@ -1,0 +1,5 @@
+//! The network of an accepted plan, cycle by cycle: the devices' switches, the frames and parcels between them, and the
+//! rows that they put into the journal.
+#![tactic(auto)]
+
+pub mod net;

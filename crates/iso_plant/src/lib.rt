@@ -1,0 +1,5 @@
+//! The plant of a run: its network and its stations over a world, cycle by cycle. What it holds is the replay of its
+//! history, whatever the applications do and whoever turns them.
+#![tactic(auto)]
+
+pub mod plant;

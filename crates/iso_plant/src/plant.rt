@@ -1,0 +1,130 @@
+//! The plant.
+
+ghost use Rattle.std.specs.Prelude.{◌≡◌, ◌≤◌, ◌<◌, IfOk, length, [], ◌∷◌};
+ghost use Rattle.irt_base.specs.declared.limits.TheConstants.{MAX_CYCLES};
+ghost use Rattle.irt_route.specs.Routes.{IsRoutesOf};
+ghost use Rattle.irt_world.specs.Rows.{Fits};
+ghost use Rattle.iso_plant.specs.Replay.{IsReplay};
+ghost use Rattle.iso_plant.specs.Step.{IsFresh, ServesPlant, Steps, ends_of};
+ghost use Rattle.iso_rules.specs.Station.{input_count, output_count};
+ghost use Rattle.plan_rules.specs.Plan.{setup_of};
+
+use cycle_rows::rows::JournalRow;
+use io_buffers::ends::Ends;
+use irt_base::blocks::Bundle;
+use irt_base::list::Items;
+use irt_base::memory::NoMemory;
+use irt_base::plants::Plant;
+use irt_route::tables::Routes;
+use irt_world::rows::World;
+use plan_check::accepted::Accepted;
+use record_text::record::Take;
+use std::alloc::Global;
+use std::marker::Model;
+
+/// The plant of a run. A clause sees the plan, the walks of its parcels, the world, how many cycles are done, and what was taken,
+/// published and written down in them.
+#[derive(Drop, Debug)]
+pub struct PlantState {
+    plant: Plant,
+    bundles: Items<Bundle>,
+    world: World,
+    done: u32,
+}
+
+/// What a run leaves of an app: takes of its output and images published to its input, by cycle.
+#[derive(Drop, Debug)]
+pub struct AppHistory {
+    pub takes: Items<Take>,
+    pub images: Items<Items<u64>>,
+}
+
+/// What a run leaves: of each app, and the journal.
+#[derive(Drop, Debug)]
+pub struct History {
+    pub apps: Items<AppHistory>,
+    pub journal: Items<JournalRow>,
+}
+
+impl Model for PlantState {
+    ghost use Rattle.std.specs.Prelude.{[]};
+    ghost use Rattle.iso_plant.specs.Replay.{PlantView};
+
+    ghost Value = { PlantView };
+
+    ghost view = { λ s. record {
+      plant = s.plant;
+      bundles = s.bundles;
+      walks = [];
+      world = s.world;
+      done = s.done;
+      takes = [];
+      images = [];
+      rows = [];
+    } };
+
+    ghost invariant = { λ s. ⊥ };
+}
+
+impl PlantState {
+    /// The plant of an accepted plan over a world, before cycle 0. It takes all the memory that it will use.
+    ///
+    /// # Errors
+    /// `NoMemory` where memory runs out.
+    pub fn new(alloc: Global, accepted: &Accepted, routes: &Routes, world: World) -> Result<PlantState, NoMemory>
+        requires routes { IsRoutesOf accepted.now.plant routes.now }
+        requires world { Fits accepted.now.plant accepted.now.bundles world }
+        requires cycles { length world.rows ≤ MAX_CYCLES }
+        ensures plant { IfOk result (λ p. p.plant ≡ accepted.now.plant) }
+        ensures bundles { IfOk result (λ p. p.bundles ≡ accepted.now.bundles) }
+        ensures walks { IfOk result (λ p. p.walks ≡ routes.now.walks) }
+        ensures world { IfOk result (λ p. p.world ≡ world) }
+        ensures done { IfOk result (λ p. p.done ≡ 0) }
+    {
+        Err(NoMemory)
+    }
+
+    /// How many cycles are done. The plant is the replay of them.
+    pub fn done(&self) -> u32
+        ensures done { result ≡ self.now.done }
+        ensures replay { IsReplay self.now }
+    {
+        self.done
+    }
+
+    /// The words of an app's output and of its input, which exchanges of it have to have.
+    pub fn output_words(&self, app: usize) -> u16
+        requires { app < length self.now.plant.apps }
+        ensures { (a : App) → slice_get self.now.plant.apps app ≡ Some a →
+            result ≡ output_count (setup_in self.now) a.device.0 }
+    {
+        0
+    }
+
+    pub fn input_words(&self, app: usize) -> u16
+        requires { app < length self.now.plant.apps }
+        ensures { (a : App) → slice_get self.now.plant.apps app ≡ Some a →
+            result ≡ input_count (setup_in self.now) a.device.0 }
+    {
+        0
+    }
+
+    /// Plays the next cycle: takes once from each app, runs the network, and publishes once to each app. It takes no memory.
+    pub fn step<E: Ends>(&mut self, ends: &mut E)
+        requires open { self.old.done < length self.old.world.rows }
+        requires ends { ServesPlant self.old
+            (ends_of E.apps E.output_words E.input_words E.offers E.takes E.published ends.old) }
+        requires fresh { IsFresh (ends_of E.apps E.output_words E.input_words E.offers E.takes E.published ends.old) }
+        ensures { Steps self.old self.new
+            (ends_of E.apps E.output_words E.input_words E.offers E.takes E.published ends.old)
+            (ends_of E.apps E.output_words E.input_words E.offers E.takes E.published ends.new) }
+    {
+    }
+
+    /// What the run has left so far.
+    pub fn into_history(self) -> History
+        ensures apps { map takes and images by app equal self's }
+        ensures journal { result.journal ≡ self.rows }
+    {
+    }
+}
