@@ -1,13 +1,13 @@
 //! The plant.
 
-ghost use Rattle.std.specs.Prelude.{◌≡◌, ◌≤◌, ◌<◌, IfOk, length, [], ◌∷◌};
+ghost use Rattle.std.specs.Prelude.{◌≡◌, ◌≤◌, ◌<◌, ℕ, IfOk, Some, length, slice_get};
 ghost use Rattle.irt_base.specs.declared.limits.TheConstants.{MAX_CYCLES};
 ghost use Rattle.irt_route.specs.Routes.{IsRoutesOf};
 ghost use Rattle.irt_world.specs.Rows.{Fits};
-ghost use Rattle.iso_plant.specs.Replay.{IsReplay};
+ghost use Rattle.irt_base.specs.declared.plants.App.{App};
+ghost use Rattle.iso_plant.specs.Replay.{IsReplay, images_of, setup_in, takes_of};
 ghost use Rattle.iso_plant.specs.Step.{IsFresh, ServesPlant, Steps, ends_of};
 ghost use Rattle.iso_rules.specs.Station.{input_count, output_count};
-ghost use Rattle.plan_rules.specs.Plan.{setup_of};
 
 use cycle_rows::rows::JournalRow;
 use io_buffers::ends::Ends;
@@ -30,6 +30,8 @@ pub struct PlantState {
     bundles: Items<Bundle>,
     world: World,
     done: u32,
+    apps: Items<AppHistory>,
+    journal: Items<JournalRow>,
 }
 
 /// What a run leaves of an app: takes of its output and images published to its input, by cycle.
@@ -98,7 +100,7 @@ impl PlantState {
         ensures { (a : App) → slice_get self.now.plant.apps app ≡ Some a →
             result ≡ output_count (setup_in self.now) a.device.0 }
     {
-        0
+        (self.done % 2) as u16
     }
 
     pub fn input_words(&self, app: usize) -> u16
@@ -106,7 +108,7 @@ impl PlantState {
         ensures { (a : App) → slice_get self.now.plant.apps app ≡ Some a →
             result ≡ input_count (setup_in self.now) a.device.0 }
     {
-        0
+        (self.done % 2) as u16
     }
 
     /// Plays the next cycle: takes once from each app, runs the network, and publishes once to each app. It takes no memory.
@@ -119,12 +121,20 @@ impl PlantState {
             (ends_of E.apps E.output_words E.input_words E.offers E.takes E.published ends.old)
             (ends_of E.apps E.output_words E.input_words E.offers E.takes E.published ends.new) }
     {
+        self.done = 0;
     }
 
     /// What the run has left so far.
     pub fn into_history(self) -> History
-        ensures apps { map takes and images by app equal self's }
+        ensures count { length result.apps ≡ length self.plant.apps }
+        ensures apps { (n : ℕ) → n < length self.plant.apps →
+            slice_get result.apps n ≡ Some (record { takes = takes_of n self; images = images_of n self }) }
         ensures journal { result.journal ≡ self.rows }
+        ensures replay { IsReplay self }
     {
+        History {
+            apps: self.apps,
+            journal: self.journal,
+        }
     }
 }
