@@ -1,29 +1,23 @@
 -- What the blocks of accepted plans say of an event that happens.
 use Rattle.std.specs.Prelude.{◌≡◌, ℕ, ◌≤◌, List, [], ◌∷◌, Some, slice_get, pos, ◌+ℤ◌}
-use Rattle.irt_base.specs.Cycle.{IsDue, wire_time}
+use Rattle.irt_base.specs.Cycle.{wire_time}
 use Rattle.irt_base.specs.declared.blocks.Bundle.{Bundle}
-use Rattle.irt_base.specs.declared.blocks.Entry.{Entry}
 use Rattle.irt_base.specs.declared.limits.TheConstants.{MAX_DATA}
 use Rattle.irt_base.specs.declared.plants.Demand.{Demand}
-use Rattle.plan_rules.specs.Tree.{demand_of}
-use Rattle.plan_rules.specs.Way.{entry_at}
+use Rattle.plan_rules.specs.Once.{IsDueFrame}
 use Rattle.cycle_rows.specs.declared.rows.JournalRow.TheVariants.{Occupy}
 use Rattle.cycle_events.specs.declared.events.Event.{Event}
 use Rattle.cycle_events.specs.declared.events.What.TheVariants.{Start, Arrive}
 use Rattle.cycle_events.specs.Events.{Play, Happens, rows_of}
 use Rattle.irt_switch.specs.State.{HasPort}
 
--- The event's frame is demanded, and a device has an entry of it that is due.
+-- The event's frame is demanded, and due in the cycle by the entry of its provider.
 pub record IsDemanded (play : Play) (e : Event) : Type 0 where
   pub demand : Demand
-  pub demanded : demand_of play.setup.plant e.frame.0 ≡ Some demand
+  pub frame : IsDueFrame play.setup play.cycle e.frame.0 demand
   pub short : demand.length ≤ MAX_DATA
-  pub sender : ℕ
-  pub from : Entry
-  pub stands : entry_at play.setup sender e.frame.0 ≡ Some from
-  pub due : IsDue play.cycle from.ratio from.phase
 
--- Whatever happens is of a demanded frame.
+-- Whatever happens is of a frame that is demanded and due.
 abbrev pub EventsAreDemanded : List Bundle → Play → Type 0
 EventsAreDemanded bundles play = (e : Event) → Happens play e → IsDemanded play e
 

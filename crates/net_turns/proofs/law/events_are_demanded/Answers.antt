@@ -7,14 +7,14 @@ use Rattle.net_turns.proofs.law.events_are_demanded.Goals as goal
 
 pub returns-clause-demanded : goal.returns-clause-demanded
 returns-clause-demanded c = λ plant bundles plan accepted row range k.
-    demanded plant bundles accepted row k (c.accepted_plans_can_be_played.ensures.entries plant bundles plan accepted)
+    demanded plant bundles accepted row k (c.accepted_plans_can_be_played.ensures.entries plant bundles plan accepted) (c.accepted_plans_can_be_played.ensures.alike plant bundles plan accepted)
 
 pub returns-clause-starts : goal.returns-clause-starts
 returns-clause-starts c = λ plant bundles plan accepted row range k e what is.
-    let known = demanded plant bundles accepted row k (c.accepted_plans_can_be_played.ensures.entries plant bundles plan accepted) e is in
+    let known = demanded plant bundles accepted row k (c.accepted_plans_can_be_played.ensures.entries plant bundles plan accepted) (c.accepted_plans_can_be_played.ensures.alike plant bundles plan accepted) e is in
     record {
       known = known;
-      row = c.answers_are_events.ensures.starts plant bundles plan accepted row range k e known.demand what is known.demanded;
+      row = c.answers_are_events.ensures.starts plant bundles plan accepted row range k e known.demand what is known.frame.demanded;
     }
 
 pub returns-clause-ports : goal.returns-clause-ports
