@@ -2,4 +2,6 @@
 //! the bytes that come to it. The journal gets exactly the rows of the cycle's frames, in their order.
 #![tactic(auto)]
 
+pub mod answers;
 pub mod frames;
+pub mod turns;

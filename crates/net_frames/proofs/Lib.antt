@@ -1,0 +1,6 @@
+pub mod Range
+pub mod Times
+pub mod Starting
+pub mod Answering
+pub mod Running
+pub mod Ended
