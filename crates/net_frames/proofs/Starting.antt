@@ -40,6 +40,9 @@ at_mapped {A} {B} f xs n y is =
       | inr (past, none) ↦ absurd (let no : None ≡ Some y = sym (ap (option_map f) none) ∙ (sym (slice_get-map f xs n) ∙ is) in cc)
     ]
 
+pub mapped_at : {A B : Type 0} (f : A → B) (xs : List A) (n : ℕ) (x : A) → slice_get xs n ≡ Some x → slice_get (map f xs) n ≡ Some (f x)
+mapped_at f xs n x is = slice_get-map f xs n ∙ ap (option_map f) is
+
 abbrev left_of : SwitchState → List Outgoing
 left_of s = s.left
 
@@ -93,7 +96,7 @@ module _ (site : SiteState) (row : Row) (k : ℕ) (switches : List SwitchState) 
       let has = begun device s there in
       let valid = All-get_or IsBundle (bundles_of switches) device s.bundle (omega (arith, below, length-map switches (λ (x : SwitchState). x.bundle))) plan.plan.blocks in
       let held : slice_get (bundles_of switches) device ≡ Some s.bundle =
-      slice_get-map (λ (x : SwitchState). x.bundle) switches device ∙ ap (option_map (λ (x : SwitchState). x.bundle)) there in
+      mapped_at (λ (x : SwitchState). x.bundle) switches device s there in
       let same = get_or_from_slice_get (bundles_of switches) device s.bundle s.bundle held in
       released_small s.bundle (subst IsBundle same valid) k _ s.left has.release
 

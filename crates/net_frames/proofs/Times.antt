@@ -1,10 +1,11 @@
 -- Times of a cycle are small.
-use Rattle.std.proofs.Common.{◌≡◌, ℕ, ◌+◌, ◌≤◌, ◌<◌, ◌^◌, true, false, List, refl, sym, subst, arith, All}
+use Rattle.std.proofs.Common.{◌≡◌, ℕ, ◌+◌, ◌≤◌, ◌<◌, ◌^◌, ◌*◌, true, false, List, Some, None, slice_get, unwrap_or, inl, inr, refl, sym, subst, arith, All}
 use Rattle.std.specs.List.{Contains}
-use Rattle.std.specs.Prelude.{Bool, ℤ, pos, ◌+ℤ◌, ◌≤ℤ◌}
+use Rattle.std.specs.Prelude.{Bool, ℤ, pos, ◌+ℤ◌, ◌-ℤ◌, ◌≤ℤ◌}
 use Rattle.std.proofs.lemmas.Int.{ints}
 use Rattle.std.proofs.lemmas.List.Elements.{All-nil, All-contains, All-from_recursion}
 use Rattle.std.proofs.lemmas.Nat.{mul-le}
+use Rattle.std.proofs.lemmas.Option.{slice_get_cases}
 use Rattle.irt_base.specs.Cycle.{cycle_time}
 use Rattle.irt_base.specs.Valid.{IsBundle, IsEntry}
 use Rattle.irt_base.specs.declared.blocks.Bundle.{Bundle}
@@ -19,6 +20,9 @@ use Rattle.irt_switch.specs.Arrive.{Reception}
 use Rattle.irt_switch.specs.declared.action.Action.{Action}
 use Rattle.irt_switch.specs.declared.action.Action.TheVariants.{Forward, Dropped}
 use Rattle.irt_switch.specs.declared.action.Outgoing.{Outgoing}
+use Rattle.irt_world.specs.Rows.{IsError, error_in}
+use Rattle.irt_world.specs.declared.rows.Row.{Row}
+use Rattle.net_begin.specs.Clocks.{begin_of}
 use Rattle.cycle_rows.proofs.Lists.{all_of}
 use Rattle.net_answers.specs.Answer.{IsSmallAnswer}
 use Rattle.net_starts.specs.Released.{IsSmallTime}
@@ -65,3 +69,30 @@ answer_small bundle valid k step r bridge local small (Forward at ports here) is
     by_mode true relative absolute = subst (IsSmallTime 60) (sym (relative refl)) (bridged r.local bridge local small)
     by_mode false relative absolute =
         subst (IsSmallTime 60) (sym (absolute refl)) (offset_small is.e.send_offset (valid_entry bundle valid is.e is.receives.stands).offset)
+
+pub local_small : (at begin : ℤ) → IsSmallTime 58 at → IsSmallTime 58 begin → IsSmallTime 59 (at -ℤ begin)
+local_small at begin event from =
+    let low = event.low in
+    let high = event.high in
+    let first = from.low in
+    let last = from.high in
+    record { low = omega (arith, ints); high = omega (arith, ints) }
+
+shifted : (begin : ℕ) (error : ℤ) → begin ≤ 40000000000 → IsError error → IsSmallTime 58 (pos begin +ℤ error)
+shifted begin error early is = let low = is.early in let high = is.late in record { low = omega (arith, ints); high = omega (arith, ints) }
+
+error_of : (errors : List ℤ) → All IsError errors → (device : ℕ) → IsError (unwrap_or (slice_get errors device) (pos 0))
+error_of errors each device =
+    elim (slice_get_cases errors device).1 [
+      | inl (e, below, held, same) ↦
+          let is = each device e below in
+          rw held (subst IsError same is)
+      | inr (past, none) ↦ rw none (record { early = omega (arith, ints); late = omega (arith, ints) })
+    ]
+
+-- a device's cycle begins at a small time
+pub begin_small : (plant : Plant) → MeetsRules plant → (k : ℕ) → k < MAX_CYCLES → (row : Row) → All IsError row.errors → (device : ℕ) → IsSmallTime 58 (begin_of plant row k device)
+begin_small plant rules k run row errors device =
+    let (least, most) = rules.factor in
+    let early = mul-le k (cycle_time plant.factor) 10000 4000000 (omega arith) (omega arith) in
+    shifted (k * cycle_time plant.factor) (error_in row device) early (error_of row.errors errors device)

@@ -1,9 +1,11 @@
 -- A cycle that is being played.
-use Rattle.std.specs.Prelude.{◌≡◌, ℕ, ◌+◌, ◌<◌, ◌≤◌, List, [], ◌++◌, length, Some, slice_get, IsPermutation}
+use Rattle.std.specs.Prelude.{◌≡◌, ℕ, ◌+◌, ◌<◌, ◌≤◌, List, [], ◌++◌, length, Some, slice_get, IsPermutation, ℤ, ◌-ℤ◌}
 use Rattle.irt_base.specs.declared.limits.TheConstants.{MAX_CYCLES}
 use Rattle.irt_base.specs.declared.plants.Plant.{Plant}
 use Rattle.plan_rules.specs.Plan.{setup_of}
 use Rattle.plan_rules.specs.Way.{IsInRange}
+use Rattle.rtc3_frame.specs.Frame.{fields_at}
+use Rattle.irt_switch.specs.Arrive.{Reception, frame_of}
 use Rattle.irt_switch.specs.State.{SwitchState}
 use Rattle.irt_world.specs.Rows.{world_row}
 use Rattle.irt_world.specs.declared.rows.Row.{Row}
@@ -32,6 +34,10 @@ pub record IsPlaying (site : SiteState) (row : Row) (k : ℕ) (switches : List S
 -- what the switches play
 abbrev pub play_by : Plant → List SwitchState → Row → ℕ → Play
 play_by plant switches row k = play_in plant (bundles_of switches) row k
+
+-- what a switch is told of an arrival with these bytes, where its device's cycle begins at a true time
+abbrev pub told_of : ℤ → Event → List ℕ → Reception
+told_of begin arrival bytes = record { local = arrival.at -ℤ begin; port = arrival.port.0; frame = frame_of (fields_at bytes) }
 
 -- What waits is what a run begins with.
 pub record IsStarted (play : Play) (waiting : List Event) : Type 0 where
