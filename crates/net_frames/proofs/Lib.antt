@@ -1,6 +1,7 @@
 pub mod Range
 pub mod Times
 pub mod Starting
+pub mod Demanded
 pub mod Answering
 pub mod Running
 pub mod Ended
