@@ -1,5 +1,5 @@
 -- What is told of an arrival, and the answer to it.
-use Rattle.std.proofs.Common.{◌≡◌, ℕ, ◌<◌, ◌≤◌, ◌==◌, Bool, List, length, map, Option, Some, slice_get, slice_index_or, option_map, option_and_then, unwrap_or, refl, sym, ◌∙◌, ap, subst, arith}
+use Rattle.std.proofs.Common.{◌≡◌, ℕ, ◌<◌, ◌==◌, List, length, Some, slice_get, slice_index_or, option_and_then, unwrap_or, refl, sym, ◌∙◌, ap, subst, arith}
 use Rattle.std.specs.Prelude.{ℤ, ◌+ℤ◌, ◌-ℤ◌}
 use Rattle.std.proofs.lemmas.Bool.{eqb-true}
 use Rattle.std.proofs.lemmas.Int.{ints}
@@ -11,27 +11,27 @@ use Rattle.irt_base.specs.declared.plants.Demand.{Demand}
 use Rattle.irt_base.specs.declared.plants.Plant.{Plant}
 use Rattle.plant_rules.specs.Meets.{MeetsRules, IsDemand}
 use Rattle.plan_rules.specs.Once.{IsDueFrame}
-use Rattle.plan_rules.specs.Plan.{setup_of}
 use Rattle.plan_rules.specs.Tree.{demand_of}
 use Rattle.plan_rules.proofs.Wires.{found}
-use Rattle.rtc3_frame.specs.Frame.{fields_at}
 use Rattle.irt_switch.specs.Arrive.{action_of, frame_of}
 use Rattle.irt_switch.specs.Played.{TakesBridge}
 use Rattle.irt_switch.specs.State.{SwitchState, HasPort}
-use Rattle.irt_world.specs.Forwardings.{forwardings, number_in}
+use Rattle.irt_world.specs.Forwardings.{number_in}
 use Rattle.irt_world.specs.declared.rows.Row.{Row}
 use Rattle.irt_world.specs.declared.forwardings.Forwarding.{Forwarding}
 use Rattle.cycle_events.specs.declared.events.Event.{Event}
 use Rattle.cycle_events.specs.declared.events.What.TheVariants.{Arrive}
 use Rattle.cycle_events.specs.Events.{Play, arrival_of}
 use Rattle.cycle_events.specs.Run.{IsNearEvent}
-use Rattle.switch_events.specs.Answered.{AnswersAreEvents, ForSwitches, IsAnswer, Tells, true_of}
-use Rattle.net_begin.specs.Clocks.{begin_of, keeps_step}
+use Rattle.switch_events.specs.Answered.{AnswersAreEvents, ForSwitches, IsAnswer, Tells}
+use Rattle.net_begin.specs.Clocks.{begin_of}
 use Rattle.net_site.specs.Site.{SiteState, bundles_of}
 use Rattle.net_turns.specs.Bytes.{bytes_of}
 use Rattle.net_turns.specs.Known.{IsDemanded, EventsAreDemanded, IsPortOf, ArrivalsHavePorts}
 use Rattle.net_frames.specs.Bytes.{IsFrameOf}
 use Rattle.net_frames.specs.Playing.{IsPlaying, play_by, told_of}
+use Rattle.net_frames.proofs.Demanded.{counted}
+use Rattle.net_frames.proofs.Playing.{of_switches}
 use Rattle.net_frames.proofs.Starting.{at_mapped, mapped_at}
 
 -- the demand that asks for a frame has its FrameID
@@ -62,7 +62,7 @@ module _ (site : SiteState) (row : Row) (k : ℕ) (switches : List SwitchState) 
   asked law =
       let plan = playing.plan in
       let at : IsPortOf (bundles_of switches) arrival.device.0 arrival.port.0 =
-      law site.plant (bundles_of switches) plan.plan plan.accepted play.row playing.range k arrival arrives near.happens in
+      of_switches ArrivalsHavePorts law site row k switches frames playing arrival arrives near.happens in
       let (s, there, same) = at_mapped (λ (x : SwitchState). x.bundle) switches arrival.device.0 at.bundle at.held in
       let valid = All-get_or IsBundle (bundles_of switches) arrival.device.0 at.bundle (slice_get_within (bundles_of switches) arrival.device.0 at.bundle at.held) plan.plan.blocks in
       record {
@@ -86,7 +86,7 @@ module _ (site : SiteState) (row : Row) (k : ℕ) (switches : List SwitchState) 
       )
 
   known : ForSwitches EventsAreDemanded → IsDemanded play arrival
-  known law = law site.plant (bundles_of switches) playing.plan.plan playing.plan.accepted play.row playing.range k arrival near.happens
+  known law = of_switches EventsAreDemanded law site row k switches frames playing arrival near.happens
 
   held_bytes : (law : ForSwitches EventsAreDemanded) (number : ℕ) → slice_get site.plant.demands number ≡ demand_of site.plant arrival.frame.0 →
       HasBytes frames number (known law).demand
@@ -132,9 +132,9 @@ module _ (site : SiteState) (row : Row) (k : ℕ) (switches : List SwitchState) 
       let bundle : slice_get (bundles_of switches) arrival.device.0 ≡ Some s.bundle = mapped_at (λ (x : SwitchState). x.bundle) switches arrival.device.0 s held in
       let takes : TakesBridge play.setup play.row (arrival_of play arrival) bridge = λ e stands relay.
       bridged ∙ ap (λ (fs : List Forwarding). unwrap_or (option_and_then (slice_get row.bridges) (number_in fs arrival.device.0 arrival.frame.0)) 0) playing.plan.delays in
-      let answer = law site.plant (bundles_of switches) playing.plan.plan playing.plan.accepted play.row playing.range k arrival arrives near.happens s.bundle bundle (told_of begin arrival bytes) tells bridge takes in
+      let answer = of_switches AnswersAreEvents law site row k switches frames playing arrival arrives near.happens s.bundle bundle (told_of begin arrival bytes) tells bridge takes in
       let here = playing.cycle arrival.device.0 s held in
-      let counted : it.demand.length ≡ bytes_of site.plant arrival.frame.0 = sym (ap (λ o. unwrap_or (option_map (λ (d : Demand). d.length) o) 0) it.frame.demanded) in
-      subst (λ n. IsAnswer play arrival n (action_of s.bundle s.cycle s.in_step (told_of begin arrival bytes) bridge)) counted
+      let counts = counted site row k switches frames playing arrival near it in
+      subst (λ n. IsAnswer play arrival n (action_of s.bundle s.cycle s.in_step (told_of begin arrival bytes) bridge)) counts
       (subst (λ c. IsAnswer play arrival it.demand.length (action_of s.bundle c s.in_step (told_of begin arrival bytes) bridge)) (sym here.cycle)
       (subst (λ b. IsAnswer play arrival it.demand.length (action_of s.bundle k b (told_of begin arrival bytes) bridge)) (sym here.in_step) answer))

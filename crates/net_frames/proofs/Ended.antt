@@ -1,5 +1,5 @@
 -- Switches that have released all, and the rows of a cycle that has ended.
-use Rattle.std.proofs.Common.{◌≡◌, ℕ, ◌+◌, ◌≤◌, ◌<◌, ◌++◌, ◌∷◌, [], List, length, map, take, drop, Some, slice_get, refl, sym, ◌∙◌, ap, subst, arith, AllPairs}
+use Rattle.std.proofs.Common.{◌≡◌, ℕ, ◌<◌, ◌++◌, ◌∷◌, [], List, length, map, take, drop, Some, slice_get, refl, sym, ◌∙◌, ap, subst, arith, AllPairs}
 use Rattle.std.specs.List.Sorted.{IsPermutation}
 use Rattle.std.proofs.lemmas.Grind.{common_steps}
 use Rattle.std.proofs.lemmas.List.{take_at}
@@ -13,17 +13,16 @@ use Rattle.irt_switch.specs.State.{SwitchState}
 use Rattle.irt_world.specs.Rows.{world_row}
 use Rattle.irt_world.specs.declared.rows.Row.{Row}
 use Rattle.cycle_rows.specs.declared.rows.JournalRow.{JournalRow}
-use Rattle.cycle_rows.specs.Order.{HasOtherKey, AreInOrder}
+use Rattle.cycle_rows.specs.Order.{HasOtherKey}
 use Rattle.cycle_events.specs.Events.{Play}
-use Rattle.cycle_events.specs.Run.{ForPlays, RowsAreSegment, RowsDiffer, rows_given}
+use Rattle.cycle_events.specs.Run.{RowsAreSegment, RowsDiffer, rows_given}
 use Rattle.run_journal.specs.Written.{IsSortedFrom, Written}
 use Rattle.net_begin.specs.Begun.{released}
-use Rattle.net_begin.specs.Clocks.{keeps_step}
 use Rattle.net_site.specs.Site.{SiteState, IsPlayedAt, bundles_of, play_in}
 use Rattle.net_frames.specs.Begun.{AllHaveBegun}
 use Rattle.net_frames.specs.Bytes.{AreFramesOf}
 use Rattle.net_frames.specs.Frames.{GrowsByFrames}
-use Rattle.net_frames.specs.Playing.{HasGiven, IsInCycle, IsPlaying, play_by}
+use Rattle.net_frames.specs.Playing.{HasGiven, IsInCycle, IsPlaying}
 use Rattle.net_frames.proofs.Range.{AreInRange, row_in_range}
 use Rattle.net_frames.proofs.Starting.{at_mapped}
 

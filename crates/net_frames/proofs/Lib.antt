@@ -1,5 +1,6 @@
 pub mod Range
 pub mod Times
+pub mod Playing
 pub mod Starting
 pub mod Demanded
 pub mod Answering

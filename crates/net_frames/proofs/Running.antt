@@ -1,5 +1,5 @@
 -- The turns of a run, and how far it has come.
-use Rattle.std.proofs.Common.{◌≡◌, ℕ, suc, ◌+◌, ◌*◌, ◌≤◌, ◌<◌, Bool, true, false, cond, ◌++◌, ◌∷◌, [], List, length, map, Option, Some, None, refl, sym, ◌∙◌, ap, subst, arith, append_assoc, append-nil, length-append}
+use Rattle.std.proofs.Common.{◌≡◌, ℕ, ◌+◌, ◌*◌, ◌≤◌, ◌<◌, Bool, true, false, cond, ◌++◌, ◌∷◌, [], List, length, map, Option, Some, None, refl, sym, ◌∙◌, ap, subst, arith, append_assoc, append-nil, length-append}
 use Rattle.std.specs.Prelude.{ℤ}
 use Rattle.std.specs.List.{count_by}
 use Rattle.std.specs.List.Sorted.{IsPermutation}
@@ -11,29 +11,18 @@ use Rattle.irt_base.specs.declared.numbers.DevId.{DevId}
 use Rattle.irt_base.specs.declared.numbers.PortNo.{PortNo}
 use Rattle.plan_rules.specs.Way.{entry_at}
 use Rattle.plan_rules.specs.World.{is_in_step, is_uncut}
-use Rattle.irt_switch.specs.State.{SwitchState}
-use Rattle.irt_world.specs.Rows.{world_row}
-use Rattle.irt_world.specs.declared.rows.Row.{Row}
-use Rattle.cycle_rows.specs.declared.rows.JournalRow.{JournalRow}
 use Rattle.cycle_rows.proofs.Lists.{count_none}
 use Rattle.cycle_events.specs.declared.events.Event.{Event}
 use Rattle.cycle_events.specs.declared.events.What.{What}
 use Rattle.cycle_events.specs.declared.events.What.TheVariants.{Start, Arrive}
 use Rattle.cycle_events.specs.Events.{Play, arrive_at, causes, causes_as, event, ports_in, rows_as, rows_of, start_after, starts_at}
 use Rattle.cycle_events.specs.Places.{is_arrival, places}
-use Rattle.cycle_events.specs.Run.{ForPlays, GivesRow, HasRun, IsBegun, IsNearEvent, IsRunning, IsTurn, RunsBegin, RunsGoOn, TurnsFit, TurnsGiveRows, TurnsHappen, rows_given}
+use Rattle.cycle_events.specs.Run.{IsBegun, IsNearEvent, IsRunning, IsTurn, RunsBegin, RunsGoOn, TurnsFit, TurnsGiveRows, TurnsHappen, rows_given}
 use Rattle.cycle_events.proofs.Lists.{count_map}
 use Rattle.event_queue.specs.Waiting.{Waiting}
 use Rattle.run_journal.specs.Written.{Written}
-use Rattle.net_site.specs.Site.{SiteState, bundles_of}
 use Rattle.net_frames.specs.Frames.{IsReadyFor}
-use Rattle.net_frames.specs.Playing.{HasGiven, IsPlaying, IsStarted, play_by}
-
--- a fact of all cycles, in one that is played
-pub in_cycle : (Fact : Play → Type 0) → ForPlays Fact → (site : SiteState) (row : Row) (k : ℕ) (switches : List SwitchState) (frames : List (List ℕ)) →
-    IsPlaying site row k switches frames → Fact (play_by site.plant switches row k)
-in_cycle Fact law site row k switches frames playing =
-    law site.plant (bundles_of switches) playing.plan.plan playing.plan.accepted (world_row site.plant (bundles_of switches) row) playing.range k
+use Rattle.net_frames.specs.Playing.{HasGiven, IsStarted}
 
 -- Some events were handled, which gave the rows that were appended. For all that may still come there is room.
 pub record IsUnderWay (play : Play) (old : Written) (queue : Waiting) (journal : Written) : Type 0 where

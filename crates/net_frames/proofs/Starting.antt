@@ -1,13 +1,11 @@
 -- What the devices release is what a run begins with.
-use Rattle.std.proofs.Common.{◌≡◌, ℕ, ◌+◌, ◌≤◌, ◌++◌, ◌∷◌, [], List, length, map, Option, Some, None, option_map, slice_get, slice_index_or, inl, inr, refl, sym, ◌∙◌, ap, subst, arith, All, append-nil, length-append}
+use Rattle.std.proofs.Common.{◌≡◌, ℕ, ◌+◌, ◌≤◌, ◌++◌, ◌∷◌, [], List, length, map, Some, None, option_map, slice_get, slice_index_or, inl, inr, refl, sym, ◌∙◌, ap, subst, arith, All, append-nil, length-append}
 use Rattle.std.specs.List.Sorted.{IsPermutation}
 use Rattle.std.proofs.lemmas.List.{length-map}
 use Rattle.std.proofs.lemmas.List.Elements.{All-get_or}
 use Rattle.std.proofs.lemmas.List.Sorted.{IsPermutation-refl, length_permutation}
-use Rattle.std.proofs.lemmas.Option.{same_Some, slice_get-map, slice_get-get_or, slice_get_within, slice_get_cases, get_or_from_slice_get}
+use Rattle.std.proofs.lemmas.Option.{same_Some, slice_get-map, slice_get-get_or, slice_get_cases, get_or_from_slice_get}
 use Rattle.irt_base.specs.Valid.{IsBundle}
-use Rattle.irt_base.specs.declared.blocks.Bundle.{Bundle}
-use Rattle.irt_base.specs.declared.plants.Plant.{Plant}
 use Rattle.plan_rules.specs.Plan.{setup_of}
 use Rattle.plan_rules.specs.Way.{IsInRange}
 use Rattle.plan_rules.specs.World.{is_in_step}
@@ -18,7 +16,6 @@ use Rattle.irt_world.specs.declared.rows.Row.{Row}
 use Rattle.irt_world.specs.Rows.{world_row}
 use Rattle.cycle_events.specs.declared.events.Event.{Event}
 use Rattle.cycle_events.specs.Events.{Play}
-use Rattle.cycle_events.specs.Places.{places}
 use Rattle.cycle_events.specs.Run.{IsBegun, ForPlays, RunsBegin, RunsAreShort}
 use Rattle.event_queue.specs.Waiting.{Waiting}
 use Rattle.switch_events.specs.Answered.{ForSwitches}
@@ -26,7 +23,7 @@ use Rattle.switch_events.specs.Released.{AreReleased, ReleasesAreFirst, first_fr
 use Rattle.net_begin.specs.Begun.{HasSmallTimes, starts_of_all}
 use Rattle.net_begin.specs.Clocks.{begin_of}
 use Rattle.net_starts.specs.Released.{starts_from}
-use Rattle.net_site.specs.Site.{SiteState, IsPlayedAt, bundles_of, play_in}
+use Rattle.net_site.specs.Site.{SiteState, IsPlayedAt, bundles_of}
 use Rattle.net_frames.specs.Begun.{AllHaveBegun}
 use Rattle.net_frames.specs.Frames.{IsReadyFor, most_frames}
 use Rattle.net_frames.specs.Playing.{IsStarted, play_by}

@@ -1,5 +1,5 @@
 -- Times of a cycle are small.
-use Rattle.std.proofs.Common.{◌≡◌, ℕ, ◌+◌, ◌≤◌, ◌<◌, ◌^◌, ◌*◌, true, false, List, Some, None, slice_get, unwrap_or, inl, inr, refl, sym, subst, arith, All}
+use Rattle.std.proofs.Common.{◌≡◌, ℕ, ◌+◌, ◌≤◌, ◌<◌, ◌^◌, ◌*◌, true, false, List, slice_get, unwrap_or, inl, inr, refl, sym, subst, arith, All}
 use Rattle.std.specs.List.{Contains}
 use Rattle.std.specs.Prelude.{Bool, ℤ, pos, ◌+ℤ◌, ◌-ℤ◌, ◌≤ℤ◌}
 use Rattle.std.proofs.lemmas.Int.{ints}

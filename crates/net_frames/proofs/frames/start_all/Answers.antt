@@ -1,4 +1,4 @@
-use Rattle.std.proofs.Common.{◌+◌, ◌≤◌, ◌++◌, length, sym, subst, arith, IsPermutation}
+use Rattle.std.proofs.Common.{◌≤◌, ◌++◌, length, sym, subst, arith, IsPermutation}
 use Rattle.net_begin.specs.Begun.{starts_of_all}
 use Rattle.net_begin.specs.Clocks.{begin_of}
 use Rattle.plan_rules.specs.Plan.{setup_of}

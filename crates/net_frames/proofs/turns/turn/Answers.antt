@@ -4,14 +4,14 @@ use Rattle.net_frames.proofs.turns.turn.Goals as goal
 
 pub start_turn-requires-clause-bytes : goal.start_turn-requires-clause-bytes
 start_turn-requires-clause-bytes c =
-    bytes_short c.args.site.now c.args.row.now c.args.k c.args.switches.now c.args.frames.now c.requires.playing c.args.event c.requires.near c.events_are_demanded.ensures.demanded
+    bytes_short _ _ _ _ _ c.requires.playing _ c.requires.near c.events_are_demanded.ensures.demanded
 
 pub arrival_turn-requires-clause-bytes : goal.arrival_turn-requires-clause-bytes
 arrival_turn-requires-clause-bytes c =
-    bytes_short c.args.site.now c.args.row.now c.args.k c.args.switches.now c.args.frames.now c.requires.playing c.args.event c.requires.near c.events_are_demanded.ensures.demanded
+    bytes_short _ _ _ _ _ c.requires.playing _ c.requires.near c.events_are_demanded.ensures.demanded
 
 pub returns-in-Start-clause-rows : goal.returns-in-Start-clause-rows
 returns-in-Start-clause-rows c =
     c.start_turn.ensures.rows
     ∙ ap (λ rows. c.args.journal.now.rows ++ rows)
-    (sym (start_given c.args.site.now c.args.row.now c.args.k c.args.switches.now c.args.frames.now c.requires.playing c.args.event c.requires.near c.events_are_demanded.ensures.starts c.in-Start.is))
+    (sym (start_given _ _ _ _ _ c.requires.playing _ c.requires.near c.events_are_demanded.ensures.starts c.in-Start.is))
