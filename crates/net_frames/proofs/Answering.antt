@@ -28,7 +28,7 @@ use Rattle.net_begin.specs.Clocks.{begin_of}
 use Rattle.net_site.specs.Site.{SiteState, bundles_of}
 use Rattle.net_turns.specs.Bytes.{bytes_of}
 use Rattle.net_turns.specs.Known.{IsDemanded, EventsAreDemanded, IsPortOf, ArrivalsHavePorts}
-use Rattle.net_frames.specs.Bytes.{IsFrameOf}
+use Rattle.cycle_frames.specs.Bytes.{IsFrameOf}
 use Rattle.net_frames.specs.Playing.{IsPlaying, play_by, told_of}
 use Rattle.net_frames.proofs.Demanded.{counted}
 use Rattle.net_frames.proofs.Playing.{of_switches}

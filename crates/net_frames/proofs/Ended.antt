@@ -20,7 +20,7 @@ use Rattle.run_journal.specs.Written.{IsSortedFrom, Written}
 use Rattle.net_begin.specs.Begun.{released}
 use Rattle.net_site.specs.Site.{SiteState, IsPlayedAt, bundles_of, play_in}
 use Rattle.net_frames.specs.Begun.{AllHaveBegun}
-use Rattle.net_frames.specs.Bytes.{AreFramesOf}
+use Rattle.cycle_frames.specs.Bytes.{AreFramesOf}
 use Rattle.net_frames.specs.Frames.{GrowsByFrames}
 use Rattle.net_frames.specs.Playing.{HasGiven, IsInCycle, IsPlaying}
 use Rattle.net_frames.proofs.Range.{AreInRange, row_in_range}

@@ -16,7 +16,7 @@ use Rattle.cycle_events.specs.Run.{IsBegun, HasRun, rows_given}
 use Rattle.run_journal.specs.Written.{Written}
 use Rattle.net_begin.specs.Clocks.{keeps_step}
 use Rattle.net_site.specs.Site.{SiteState, IsPlayedAt, bundles_of, play_in}
-use Rattle.net_frames.specs.Bytes.{AreFramesOf}
+use Rattle.cycle_frames.specs.Bytes.{AreFramesOf}
 
 -- A switch is in cycle k, in step or not by its device's clock.
 pub record IsInCycle (plant : Plant) (row : Row) (k device : ℕ) (s : SwitchState) : Type 0 where
