@@ -1,2 +1,4 @@
 pub mod Loaded
+pub mod Taken
+pub mod Whole
 pub mod Stations

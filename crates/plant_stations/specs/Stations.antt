@@ -1,5 +1,5 @@
 -- The stations of a plant, cycle by cycle.
-use Rattle.std.specs.Prelude.{◌≡◌, ℕ, ◌+◌, ◌<◌, List, length, Some, IsSome, slice_get, All, Contains}
+use Rattle.std.specs.Prelude.{◌≡◌, ℕ, ◌<◌, List, length, Some, IsSome, slice_get, All, Contains}
 use Rattle.irt_base.specs.declared.blocks.Bundle.{Bundle}
 use Rattle.irt_base.specs.declared.blocks.Entry.{Entry}
 use Rattle.irt_base.specs.declared.plants.App.{App}
@@ -21,6 +21,14 @@ pub record StationsState : Type 0 where
   pub consumers : List ConsumerState
   -- by demand, the bytes of its frame
   pub frames : List (List ℕ)
+
+-- the plant and the frame blocks
+abbrev pub setup_in : StationsState → Setup
+setup_in s = setup_of s.plant s.bundles
+
+-- The cycle that goes on is this one.
+abbrev pub AreInCycle : ℕ → StationsState → Type 0
+AreInCycle k s = All (λ (c : ConsumerState). c.cycle ≡ k) s.consumers
 
 -- The words of a frame came to a device in a cycle exactly where it has to reach the device, and are those loaded.
 pub record HasArrived (setup : Setup) (world : List WorldRow) (taken : ℕ → ℕ → List ℕ) (device k : ℕ) (fs : List Fields) (e : Entry) : Type 0 where

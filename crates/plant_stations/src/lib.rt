@@ -2,4 +2,10 @@
 //! devices hold of the frames that come.
 #![tactic(auto)]
 
+pub mod law;
+mod receiver;
+mod sender;
 pub mod stations;
+pub mod widths;
+
+pub use stations::Stations;
