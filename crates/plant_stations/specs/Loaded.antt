@@ -7,6 +7,7 @@ use Rattle.irt_base.specs.declared.blocks.Entry.{Entry}
 use Rattle.irt_base.specs.declared.plants.Demand.{Demand}
 use Rattle.iso_rules.specs.Image.{loaded_words, sent_words}
 use Rattle.iso_rules.specs.Station.{output_count, part_of, words_in}
+use Rattle.iso_station.specs.Kept.{IsWhole}
 use Rattle.iso_station.specs.Mark.{counter_of}
 use Rattle.iso_station.specs.Provider.{HasPlace, IsProvided, sent_frame}
 use Rattle.iso_station.specs.declared.mark.TheConstants.{DATA_STATUS}
@@ -46,12 +47,13 @@ AreLoaded setup taken k frames =
 
 -- ---- senders, one after the other
 
--- Some senders can load these words: there are as many as the frames of each take, each frame has its own place, and no
--- two senders have one.
+-- Some senders can load these words: there are as many as the frames of each take, there is room for each frame at its own
+-- place, and no two senders have one.
 pub record AreReady (senders : List Sender) (outputs frames : List (List ℕ)) : Type 0 where
   pub count : length outputs ≡ length senders
   pub words : (n : ℕ) (s : Sender) (words : List ℕ) → slice_get senders n ≡ Some s → slice_get outputs n ≡ Some words →
       length words ≡ words_in s.provider.entries
+  pub whole : (n : ℕ) (s : Sender) → slice_get senders n ≡ Some s → IsWhole s.provider.entries
   pub places : (n : ℕ) (s : Sender) → slice_get senders n ≡ Some s → AllZip (HasPlace frames) s.provider.entries s.places
   pub apart : (n : ℕ) (s : Sender) → slice_get senders n ≡ Some s → AllPairs (λ (a b : ℕ). a ≢ b) s.places
   pub others : (n m : ℕ) (s t : Sender) (e d : Entry) (place : ℕ) → slice_get senders n ≡ Some s → slice_get senders m ≡ Some t →

@@ -15,14 +15,14 @@ pub record CameAs (device : ℕ) (frames : List (List ℕ)) (came : List Came) (
   pub at : slice_get frames c.demand ≡ Some bytes
   pub told : fields_at bytes ≡ Ok f
 
--- A consumer took the frames that came to its device, and no others. Those that it ignores are none that it takes.
+-- A consumer took the frames that came to its device and that it takes, and no others but such as came.
 pub record TakesFrames (device : ℕ) (frames : List (List ℕ)) (came : List Came) (old new : ConsumerState) : Type 0 where
   pub fields : List Fields
   pub state : new ≡ with_frames fields old
   pub each : (f : Fields) → Contains fields f → CameAs device frames came f
   pub all : (f : Fields) (is : CameAs device frames came f) → IsTakenFrame old is.bytes → Contains fields f
 
--- It did, the cycle ended, and this is its image.
+-- A consumer took the frames, the cycle ended, and this is its image.
 pub record PlaysCycle (device : ℕ) (frames : List (List ℕ)) (came : List Came) (old new : ConsumerState) (out : List ℕ) : Type 0 where
   pub taken : ConsumerState
   pub takes : TakesFrames device frames came old taken
@@ -30,8 +30,17 @@ pub record PlaysCycle (device : ℕ) (frames : List (List ℕ)) (came : List Cam
   pub image : out ≡ image_in new
   pub count : length out ≡ image_count old
 
--- The consumers of all apps are so.
+-- The cycle that goes on is k for the consumers of all apps, and there is room for the image of each.
+pub record CanPlay (apps : List App) (k : ℕ) (consumers : List ConsumerState) (images : List (List ℕ)) : Type 0 where
+  pub count : length consumers ≡ length apps
+  pub outs : length images ≡ length apps
+  pub cycle : (n : ℕ) (c : ConsumerState) → slice_get consumers n ≡ Some c → c.cycle ≡ k
+  pub words : (n : ℕ) (c : ConsumerState) (image : List ℕ) → slice_get consumers n ≡ Some c → slice_get images n ≡ Some image →
+      length image ≡ image_count c
+
+-- The consumers of all apps play the cycle.
 pub record PlayCycle (apps : List App) (frames : List (List ℕ)) (came : List Came) (old new : List ConsumerState) (images : List (List ℕ)) : Type 0 where
-  pub count : length new ≡ length old
+  pub count : length new ≡ length apps
+  pub outs : length images ≡ length apps
   pub each : (n : ℕ) (app : App) (a b : ConsumerState) (image : List ℕ) → slice_get apps n ≡ Some app → slice_get old n ≡ Some a →
       slice_get new n ≡ Some b → slice_get images n ≡ Some image → PlaysCycle app.device.0 frames came a b image

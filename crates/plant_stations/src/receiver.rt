@@ -1,11 +1,10 @@
 //! A device that an application receives for.
 
-ghost use Rattle.std.specs.Prelude.{◌≡◌, ◌<◌, All, length, slice_get, IfOk};
+ghost use Rattle.std.specs.Prelude.{◌≡◌, ◌<◌, ◌∷◌, ◌++◌, [], All, List, length, IfOk};
 ghost use Rattle.cycle_frames.specs.declared.came.Came.{Came};
 ghost use Rattle.irt_base.specs.Valid.{IsBundle};
 ghost use Rattle.irt_base.specs.declared.limits.TheConstants.{MAX_CYCLES};
-ghost use Rattle.irt_base.specs.declared.plants.App.{App};
-ghost use Rattle.iso_station.specs.Consumer.{new_consumer, image_count, image_in, after_cycle};
+ghost use Rattle.iso_station.specs.Consumer.{ConsumerState, new_consumer, image_count};
 ghost use Rattle.plant_stations.specs.Taken.{TakesFrames, PlaysCycle};
 
 use crate::widths::input_words;
@@ -70,14 +69,29 @@ fn take_frames(consumer: &mut Consumer, k: u32, device: DevId, frames: &Frames, 
     requires cycle { k ≡ consumer.old.cycle }
     requires run { k < MAX_CYCLES }
     requires came { All (λ (c : Came). c.demand < length frames.now) came.now }
-    ensures { TakesFrames device.0 frames.now came.now consumer.old consumer.new }
+    ensures takes { TakesFrames device.0 frames.now came.now consumer.old consumer.new }
+    ensures cycle { consumer.new.cycle ≡ consumer.old.cycle }
+    ensures count { image_count consumer.new ≡ image_count consumer.old }
 {
     for index in 0..came.len() {
-        let one = came[index];
-        if one.device == device {
-            consumer.accept(k, frames.bytes(usize::from(one.demand)));
-        }
+        take_one(consumer, k, device, frames, came[index]);
     }
+}
+
+/// Takes a frame that came, where it came to this device.
+fn take_one(consumer: &mut Consumer, k: u32, device: DevId, frames: &Frames, one: Came)
+    requires cycle { k ≡ consumer.old.cycle }
+    requires run { k < MAX_CYCLES }
+    requires came { one.demand < length frames.now }
+    ensures takes { (came : List Came) (first : ConsumerState) →
+        TakesFrames device.0 frames.now came first consumer.old →
+        TakesFrames device.0 frames.now (came ++ one ∷ []) first consumer.new }
+    ensures cycle { consumer.new.cycle ≡ consumer.old.cycle }
+{
+    if one.device.0 != device.0 {
+        return;
+    }
+    consumer.accept(k, frames.bytes(usize::from(one.demand)));
 }
 
 /// Writes words over a list of as many.

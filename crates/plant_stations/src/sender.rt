@@ -1,6 +1,6 @@
 //! A device that sends.
 
-ghost use Rattle.std.specs.Prelude.{◌≡◌, ◌<◌, ◌==◌, ◌≢◌, AllPairs, length, map, IfOk};
+ghost use Rattle.std.specs.Prelude.{◌≡◌, ◌<◌, ◌==◌, ◌≢◌, AllPairs, length, map, position, IfOk};
 ghost use Rattle.std.specs.List.{AllZip, position_or_len};
 ghost use Rattle.irt_base.specs.Valid.{IsBundle};
 ghost use Rattle.irt_base.specs.declared.limits.TheConstants.{MAX_CYCLES};
@@ -72,18 +72,24 @@ fn places_of(alloc: Global, demands: &[Demand], entries: &[Entry]) -> Result<Ite
     let mut places = Items::new(alloc);
     for entry in entries {
         if entry.rx_port == 0 {
-            places.push(place_of(demands, entry.frame))?;
+            places.push(place_or_len(demands, entry.frame))?;
         }
     }
     Ok(places)
 }
 
 /// The number of the first demand of a frame, and of demands where there is none.
-fn place_of(demands: &[Demand], frame: FrameId) -> usize
+fn place_or_len(demands: &[Demand], frame: FrameId) -> usize
     ensures { result ≡ position_or_len (λ (d : Demand). d.frame.0 == frame.0) demands.now }
 {
-    match demands.iter().position(|d| d.frame.0 == frame.0) {
+    match place_of(demands, frame) {
         None => demands.len(),
         Some(place) => place,
     }
+}
+
+fn place_of(demands: &[Demand], frame: FrameId) -> Option<usize>
+    ensures { result ≡ position (λ (d : Demand). d.frame.0 == frame.0) demands.now }
+{
+    demands.iter().position(|d| d.frame.0 == frame.0)
 }

@@ -1,8 +1,6 @@
 //! The stations.
 
 ghost use Rattle.std.specs.Prelude.{◌≡◌, ℕ, ◌+◌, ◌<◌, All, List, length, slice_get, IfOk};
-ghost use Rattle.std.specs.List.{AllZip};
-ghost use Rattle.iso_station.specs.Consumer.{ConsumerState, image_count};
 ghost use Rattle.cycle_frames.specs.Came.{HaveCome};
 ghost use Rattle.cycle_frames.specs.declared.came.Came.{Came};
 ghost use Rattle.irt_base.specs.Valid.{IsBundle};
@@ -12,7 +10,7 @@ ghost use Rattle.plan_rules.specs.Plan.{IsPlan};
 ghost use Rattle.plan_rules.specs.World.{WorldRow};
 ghost use Rattle.plant_stations.specs.Loaded.{AreOutputs, HaveWidths, AreLoaded};
 ghost use Rattle.plant_stations.specs.Stations.{setup_in, AreInCycle, HavePlayed, AreImages, AreTrueImages};
-ghost use Rattle.plant_stations.specs.Taken.{PlayCycle};
+ghost use Rattle.plant_stations.specs.Taken.{CanPlay, PlayCycle};
 
 use crate::receiver::Receiver;
 use crate::sender::{Sender, load_all};
@@ -25,7 +23,6 @@ use irt_base::memory::NoMemory;
 use irt_base::plants::{App, Plant};
 use iso_rules::law::{held_arrivals_are_parts, stations_serve_demands};
 use iso_station::law::consumers_hold;
-use plan_rules::law::accepted_plans_can_be_played;
 use rtc3_frame::Frames;
 use std::alloc::Global;
 use std::marker::Model;
@@ -75,6 +72,7 @@ impl Stations {
         ensures plant { (self.new.plant ≡ self.old.plant) × (self.new.bundles ≡ self.old.bundles) }
         ensures consumers { self.new.consumers ≡ self.old.consumers }
     {
+        stations_serve_demands();
         load_all(self.senders.as_slice(), k, outputs, &mut self.frames);
     }
 
@@ -103,7 +101,8 @@ impl Stations {
         ensures plant { (self.new.plant ≡ self.old.plant) × (self.new.bundles ≡ self.old.bundles) }
         ensures frames { self.new.frames ≡ self.old.frames }
     {
-        accepted_plans_can_be_played();
+        consumers_hold();
+        held_arrivals_are_parts();
         play_all(self.plant.apps.as_slice(), &self.frames, k, came, self.receivers.as_mut_slice(), images);
     }
 }
@@ -118,10 +117,8 @@ fn play_all(
     images: &mut [Items<u64>],
 )
     requires run { k < MAX_CYCLES }
-    requires count { (length receivers.old ≡ length apps.now) × (length images.old ≡ length apps.now) }
-    requires cycle { All (λ (c : ConsumerState). c.cycle ≡ k) receivers.old }
+    requires ready { CanPlay apps.now k receivers.old images.old }
     requires came { All (λ (c : Came). c.demand < length frames.now) came.now }
-    requires images { AllZip (λ (c : ConsumerState) (image : List ℕ). length image ≡ image_count c) receivers.old images.old }
     ensures { PlayCycle apps.now frames.now came.now receivers.old receivers.new images.new }
 {
     for index in 0..apps.len() {

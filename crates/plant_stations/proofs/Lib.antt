@@ -1,0 +1,4 @@
+mod Lists
+mod Senders
+mod Receiving
+mod Playing
