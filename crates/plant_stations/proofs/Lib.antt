@@ -2,3 +2,5 @@ mod Lists
 mod Senders
 mod Receiving
 mod Playing
+mod Loading
+mod Sent

@@ -122,7 +122,7 @@ fn play_all(
     ensures { PlayCycle apps.now frames.now came.now receivers.old receivers.new images.new }
 {
     for index in 0..apps.len() {
-        let receiver = &mut receivers[index];
-        receiver.play(k, apps[index].device, frames, came, &mut images[index]);
+        let app = apps[index];
+        receivers[index].play(k, app.device, frames, came, &mut images[index]);
     }
 }
