@@ -4,3 +4,5 @@ mod Receiving
 mod Playing
 mod Loading
 mod Sent
+mod Reading
+mod Done
