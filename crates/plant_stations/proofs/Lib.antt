@@ -6,3 +6,6 @@ mod Loading
 mod Sent
 mod Reading
 mod Done
+mod Arriving
+mod Turning
+mod Ending
