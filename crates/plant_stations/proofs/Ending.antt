@@ -42,7 +42,7 @@ module _ (plant : Plant) (bundles : List Bundle) (plan : IsPlan plant bundles) w
   abbrev setup : Setup
   setup = setup_of plant bundles
 
-  app_bundle : (n : ℕ) (app : App) → slice_get plant.apps n ≡ Some app → (b : Bundle) × (slice_get bundles app.device.0 ≡ Some b)
+  pub app_bundle : (n : ℕ) (app : App) → slice_get plant.apps n ≡ Some app → (b : Bundle) × (slice_get bundles app.device.0 ≡ Some b)
   app_bundle n app at =
       let within : app.device.0 < length plant.devices =
       by_place (IsApp plant) plant.apps (All-from_recursion (IsApp plant) plant.apps plan.rules.apps) n app at in

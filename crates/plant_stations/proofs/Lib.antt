@@ -9,3 +9,4 @@ mod Done
 mod Arriving
 mod Turning
 mod Ending
+mod Begun

@@ -7,7 +7,7 @@ use Rattle.irt_base.specs.declared.plants.App.{App}
 use Rattle.irt_base.specs.declared.plants.Demand.{Demand}
 use Rattle.irt_base.specs.declared.plants.Plant.{Plant}
 use Rattle.iso_rules.specs.Station.{consumed_of, provided_of}
-use Rattle.iso_station.specs.Consumer.{ConsumerState}
+use Rattle.iso_station.specs.Consumer.{ConsumerState, new_consumer}
 use Rattle.iso_station.specs.Held.{Held}
 use Rattle.iso_station.specs.Provider.{new_provider}
 use Rattle.plan_rules.specs.Places.{IsAccepted}
@@ -37,6 +37,12 @@ pub record AreSenders (plant : Plant) (bundles : List Bundle) (senders : List Se
   pub count : length senders ≡ length bundles
   pub each : (device : ℕ) (bundle : Bundle) (s : Sender) → slice_get bundles device ≡ Some bundle → slice_get senders device ≡ Some s →
       s ≡ sender_of plant bundle device
+
+-- the consumers of apps, of which nothing came yet
+pub record AreNewConsumers (apps : List App) (bundles : List Bundle) (consumers : List ConsumerState) : Type 0 where
+  pub count : length consumers ≡ length apps
+  pub each : (n : ℕ) (app : App) (bundle : Bundle) (c : ConsumerState) → slice_get apps n ≡ Some app →
+      slice_get bundles app.device.0 ≡ Some bundle → slice_get consumers n ≡ Some c → c ≡ new_consumer bundle
 
 -- a consumer of the frames that a device consumes by these blocks
 pub record IsConsumerOf (bundle : Bundle) (c : ConsumerState) : Type 0 where

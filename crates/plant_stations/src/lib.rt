@@ -3,6 +3,7 @@
 #![tactic(auto)]
 
 pub mod law;
+mod making;
 mod receiver;
 mod sender;
 pub mod stations;

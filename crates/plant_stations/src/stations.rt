@@ -12,6 +12,7 @@ ghost use Rattle.plant_stations.specs.Loaded.{AreOutputs, HaveWidths, AreLoaded}
 ghost use Rattle.plant_stations.specs.Stations.{setup_in, AreInCycle, HavePlayed, AreImages, AreTrueImages};
 ghost use Rattle.plant_stations.specs.Taken.{CanPlay, PlayCycle};
 
+use crate::making::{frames, receivers, senders};
 use crate::receiver::Receiver;
 use crate::sender::{Sender, load_all};
 use cycle_frames::came::Came;
@@ -60,7 +61,13 @@ impl Stations {
         ensures begun { IfOk result (λ s. (world : List WorldRow) (taken : ℕ → ℕ → List ℕ) → HavePlayed world taken 0 s) }
         ensures cycle { IfOk result (AreInCycle 0) }
     {
-        Err(NoMemory)
+        Ok(Stations {
+            plant: plant.deep_copy(alloc)?,
+            bundles: copy_items(alloc, bundles)?,
+            senders: senders(alloc, plant, bundles)?,
+            receivers: receivers(alloc, plant.apps.as_slice(), bundles)?,
+            frames: frames(alloc, plant.demands.as_slice())?,
+        })
     }
 
     /// Writes the frames that are due in cycle `k`, with what the devices send. It takes no memory.
