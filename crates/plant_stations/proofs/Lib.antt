@@ -10,3 +10,4 @@ mod Arriving
 mod Turning
 mod Ending
 mod Begun
+mod Few

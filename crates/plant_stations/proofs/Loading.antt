@@ -69,7 +69,7 @@ words_part (e ∷ es) frame words are =
 
 -- ---- demands by number
 
-none_like : (d : Demand) (ds : List Demand) (n : ℕ) (x : Demand) → AllByRecursion (λ (y : Demand). same_frame d y ≡ false) ds →
+pub none_like : (d : Demand) (ds : List Demand) (n : ℕ) (x : Demand) → AllByRecursion (λ (y : Demand). same_frame d y ≡ false) ds →
     slice_get ds n ≡ Some x → d.frame.0 ≢ x.frame.0
 none_like d [] n x apart is same = absurd (cc)
 none_like d (y ∷ ds) zero x apart is same =
