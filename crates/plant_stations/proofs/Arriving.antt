@@ -1,6 +1,6 @@
 -- What a consumer took in a cycle is what had to reach its device, with the words that were loaded.
-use Rattle.std.proofs.Common.{◌≡◌, ◌↔◌, ℕ, ◌==◌, Bool, true, List, [], ◌∷◌, length, map, filter, slice_get, Option, Some, None, IsSome, Ok, inl, inr, refl, sym, ◌∙◌, ap, subst, arith}
-use Rattle.std.specs.Prelude.{option_map, IsBitSet}
+use Rattle.std.proofs.Common.{◌≡◌, ℕ, ◌==◌, Bool, true, List, [], ◌∷◌, filter, slice_get, Option, Some, None, IsSome, refl, sym, ◌∙◌, ap, subst, arith}
+use Rattle.std.specs.Prelude.{option_map}
 use Rattle.std.specs.List.{Contains, last_or, position_or_len}
 use Rattle.std.proofs.lemmas.Bool.{eq-eqb, eqb-true}
 use Rattle.std.proofs.lemmas.Option.{same_Some}
@@ -25,7 +25,6 @@ use Rattle.iso_station.proofs.TakingLemmas.{same_fields}
 use Rattle.plan_rules.specs.Once.{HasToReach, IsDueFrame}
 use Rattle.plan_rules.specs.Places.{IsAccepted}
 use Rattle.plan_rules.specs.Plan.{IsPlan, setup_of}
-use Rattle.plan_rules.specs.Tree.{demand_of}
 use Rattle.plan_rules.specs.Way.{Setup}
 use Rattle.plan_rules.specs.World.{WorldRow}
 use Rattle.rtc3_frame.specs.Frame.{Fields, fields_at}
@@ -60,7 +59,6 @@ good_status = (λ none. omega (arith, none), λ none. omega (arith, none))
 module _ (plant : Plant) (bundles : List Bundle) (plan : IsPlan plant bundles) (accepted : IsAccepted plant bundles) (world : List WorldRow)
     (taken : ℕ → ℕ → List ℕ) (k : ℕ) (frames : List (List ℕ)) (came : List Came) (loaded : AreLoaded (setup_of plant bundles) taken k frames)
     (have : HaveCome (setup_of plant bundles) world k came) (device : ℕ) where
-
   abbrev setup : Setup
   setup = setup_of plant bundles
 
@@ -90,7 +88,6 @@ module _ (plant : Plant) (bundles : List Bundle) (plan : IsPlan plant bundles) (
 
   module _ (bundle : Bundle) (held : slice_get bundles device ≡ Some bundle) (old new : ConsumerState) (own : IsConsumerOf bundle old)
       (now : old.cycle ≡ k) (takes : TakesFrames device frames came old new) where
-
     abbrev of_entry : Entry → Fields → Bool
     of_entry e f = e.frame.0 == f.frame
 

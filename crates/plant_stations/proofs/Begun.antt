@@ -1,7 +1,6 @@
 -- Stations as they are made.
-use Rattle.std.proofs.Common.{◌≡◌, ◌⊎◌, inl, inr, ℕ, zero, suc, ◌+◌, ◌<◌, ◌≤◌, length-append, List, [], ◌∷◌, ◌++◌, length, map, take, get_or, replicate, slice_get, Some, All, refl, sym, ◌∙◌, ap, subst, subst₂, arith}
+use Rattle.std.proofs.Common.{◌≡◌, ◌⊎◌, inl, inr, ℕ, zero, suc, ◌+◌, ◌<◌, length-append, List, [], ◌∷◌, ◌++◌, length, map, take, get_or, replicate, slice_get, Some, refl, sym, ◌∙◌, ap, subst, subst₂, arith}
 use Rattle.std.specs.Prelude.{option_map}
-use Rattle.std.specs.List.{Contains}
 use Rattle.std.proofs.lemmas.List.{length-map, length-replicate, length-take, take_more}
 use Rattle.std.proofs.lemmas.Option.{same_Some, slice_get-map, slice_get_within, get_or_from_slice_get}
 use Rattle.irt_base.specs.declared.blocks.Bundle.{Bundle}

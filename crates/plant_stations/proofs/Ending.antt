@@ -1,5 +1,5 @@
 -- All stations after a cycle.
-use Rattle.std.proofs.Common.{◌≡◌, ◌↔◌, ℕ, ◌+◌, ◌<◌, List, ◌++◌, length, take, drop, slice_get, Option, Some, All, refl, sym, ◌∙◌, ap, subst, arith}
+use Rattle.std.proofs.Common.{◌≡◌, ℕ, ◌+◌, ◌<◌, List, ◌++◌, length, take, drop, slice_get, Option, Some, All, sym, ◌∙◌, ap, subst, arith}
 use Rattle.std.proofs.lemmas.List.{take_at}
 use Rattle.std.proofs.lemmas.List.Elements.{All-from_recursion}
 use Rattle.std.proofs.lemmas.Option.{same_Some, slice_get_within, slice_get-get_or, get_or_from_slice_get}
@@ -21,7 +21,7 @@ use Rattle.plan_rules.specs.World.{WorldRow}
 use Rattle.plant_rules.specs.Meets.{IsApp}
 use Rattle.rtc3_frame.specs.Frame.{Fields}
 use Rattle.plant_stations.specs.Loaded.{AreLoaded}
-use Rattle.plant_stations.specs.Stations.{StationsState, HasTaken, HavePlayed, AreImages, AreTrueImages}
+use Rattle.plant_stations.specs.Stations.{HavePlayed, AreImages, AreTrueImages}
 use Rattle.plant_stations.specs.Taken.{CanPlay, PlaysCycle, PlayCycle}
 use Rattle.plant_stations.specs.Whole.{IsConsumerOf, AreConsumers}
 use Rattle.plant_stations.proofs.Lists.{some_at}
@@ -70,7 +70,6 @@ module _ (plant : Plant) (bundles : List Bundle) (plan : IsPlan plant bundles) w
 
   module _ (k : ℕ) (frames : List (List ℕ)) (came : List Came) (old new : List ConsumerState) (images : List (List ℕ)) (are : AreConsumers plant bundles old)
       (now : All (λ (c : ConsumerState). c.cycle ≡ k) old) (play : PlayCycle plant.apps frames came old new images) where
-
     -- one of them before, its app and its image
     record IsBefore (n : ℕ) (b : ConsumerState) : Type 0 where
       app : App
@@ -121,7 +120,6 @@ module _ (plant : Plant) (bundles : List Bundle) (plan : IsPlan plant bundles) w
     module _ (accepted : IsAccepted plant bundles) (world : List WorldRow) (taken : ℕ → ℕ → List ℕ) (old_frames : List (List ℕ))
         (played : HavePlayed world taken k (record { plant = plant; bundles = bundles; consumers = old; frames = old_frames }))
         (loaded : AreLoaded setup taken k frames) (have : HaveCome setup world k came) where
-
       own_before : (n : ℕ) (app : App) (a : ConsumerState) (at : slice_get plant.apps n ≡ Some app) (stands : slice_get old n ≡ Some a) →
           IsConsumerOf (played.each n app a at stands).bundle a
       own_before n app a at stands = let has = played.each n app a at stands in are.each n app has.bundle a at has.held stands

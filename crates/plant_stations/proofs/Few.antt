@@ -1,8 +1,8 @@
 -- A device has no more words than its demands.
-use Rattle.std.proofs.Common.{◌≡◌, ◌≢◌, ◌↔◌, ◌⊎◌, ℕ, zero, suc, ◌+◌, ◌/◌, ◌==◌, ◌<◌, ◌≤◌, Bool, true, false, not, ◌||◌, if◌then◌else◌, List, [], ◌∷◌, length, filter, slice_get, Option, Some, None, IsSome, inl, inr, refl, sym, ◌∙◌, ap, subst, arith}
+use Rattle.std.proofs.Common.{◌≡◌, ◌↔◌, ℕ, ◌/◌, ◌==◌, ◌<◌, ◌≤◌, Bool, true, false, not, ◌||◌, if◌then◌else◌, List, [], ◌∷◌, length, filter, Option, Some, None, IsSome, inl, inr, refl, sym, ◌∙◌, ap, subst, arith}
 use Rattle.std.specs.Prelude.{option_map, unwrap_or}
 use Rattle.std.specs.List.{Contains, IsDistinct, list_any}
-use Rattle.std.proofs.lemmas.Bool.{cases_Bool, cases_lt, eq-eqb, eqb-true, eqb-false}
+use Rattle.std.proofs.lemmas.Bool.{cases_lt, eq-eqb, eqb-true, eqb-false}
 use Rattle.std.proofs.lemmas.List.Filters.{sum_by-filter_both}
 use Rattle.std.proofs.lemmas.List.Kept.{AllPairs-filter}
 use Rattle.std.proofs.lemmas.List.Sums.{sum_by-cons}
@@ -68,8 +68,13 @@ few test (d ∷ ds) es apart up asked =
     let others : words_in rest ≤ words_where test ds =
     few test ds rest apart.1 (AllPairs-filter (λ (a b : Entry). a.frame.0 < b.frame.0) (λ (e : Entry). not (is_of d e)) es up)
     (λ e has. let (among, passes) = from_filter (λ (x : Entry). not (is_of d x)) es e has in other e (asked e among) (is_of d e) refl passes) in
-    omega (arith, first, others, sum_by-filter_both (is_of d) (λ (e : Entry). not (is_of d e)) (λ e. refl) data_words es,
-        sum_by-cons (λ (x : Demand). if test x then demand_words x else 0) d ds)
+    omega (
+      arith,
+      first,
+      others,
+      sum_by-filter_both (is_of d) (λ (e : Entry). not (is_of d e)) (λ e. refl) data_words es,
+      sum_by-cons (λ (x : Demand). if test x then demand_words x else 0) d ds,
+    )
   where
     own : (e : Entry) → IsAsked test (d ∷ ds) e → e.frame.0 ≡ d.frame.0 → (test d ≡ true) × (demand_words d ≡ data_words e)
     own e is same = elim (first_or_later d ds is.d is.among) [
@@ -121,17 +126,17 @@ module _ (plant : Plant) (bundles : List Bundle) (plan : IsPlan plant bundles) (
     | inl within ↦
         let most = (plan.rules.words device within).consumed in
         let least = few (consumes device) plant.demands (consumed_of (entries_at setup device)) plan.rules.frames_differ (up device) (λ e has.
-            let (d, asked, takes) = (serves device e.frame.0).0 (e, has, refl) in
-            let tree : IsInTree setup d.provider.0 e.frame.0 = accepted 2 (place_of d.provider.0 0 e.frame.0) in
-            let (own, stands) = some_of (entry_at setup d.provider.0 e.frame.0) (tree.present d asked (inl refl)) in
-            let alike = as_demanded plant bundles plan accepted device e.frame.0 d own e asked stands (consumed_entry plant bundles plan device e has) in
-            record {
-              d = d;
-              among = some_demand e.frame.0 d asked;
-              frame = asked_frame plant bundles plan accepted e.frame.0 d asked;
-              passes = passes_any (λ (c : DevId). c.0 == device) d.consumers (record { 0 = device }) takes (eq-eqb device device refl);
-              words = ap (λ n. n / WORD_BYTES) (sym alike.length);
-            }) in
+        let (d, asked, takes) = (serves device e.frame.0).0 (e, has, refl) in
+        let tree : IsInTree setup d.provider.0 e.frame.0 = accepted 2 (place_of d.provider.0 0 e.frame.0) in
+        let (own, stands) = some_of (entry_at setup d.provider.0 e.frame.0) (tree.present d asked (inl refl)) in
+        let alike = as_demanded plant bundles plan accepted device e.frame.0 d own e asked stands (consumed_entry plant bundles plan device e has) in
+        record {
+          d = d;
+          among = some_demand e.frame.0 d asked;
+          frame = asked_frame plant bundles plan accepted e.frame.0 d asked;
+          passes = passes_any (λ (c : DevId). c.0 == device) d.consumers (record { 0 = device }) takes (eq-eqb device device refl);
+          words = ap (λ n. n / WORD_BYTES) (sym alike.length);
+        }) in
         omega (arith, most, least)
     | inr past ↦ subst (λ (es : List Entry). words_in (consumed_of es) ≤ MAX_WORDS) (sym (no_entries plant bundles plan device past)) (omega arith)
   ]
@@ -142,14 +147,14 @@ module _ (plant : Plant) (bundles : List Bundle) (plan : IsPlan plant bundles) (
     | inl within ↦
         let most = (plan.rules.words device within).provided in
         let least = few (provides device) plant.demands (provided_of (entries_at setup device)) plan.rules.frames_differ (up device) (λ e has.
-            let is = served plant bundles plan accepted serves device e has in
-            record {
-              d = is.d;
-              among = some_demand e.frame.0 is.d is.asked;
-              frame = is.frame;
-              passes = eq-eqb is.d.provider.0 device is.provider;
-              words = ap (λ n. n / WORD_BYTES) (sym is.count);
-            }) in
+        let is = served plant bundles plan accepted serves device e has in
+        record {
+          d = is.d;
+          among = some_demand e.frame.0 is.d is.asked;
+          frame = is.frame;
+          passes = eq-eqb is.d.provider.0 device is.provider;
+          words = ap (λ n. n / WORD_BYTES) (sym is.count);
+        }) in
         omega (arith, most, least)
     | inr past ↦ subst (λ (es : List Entry). words_in (provided_of es) ≤ MAX_WORDS) (sym (no_entries plant bundles plan device past)) (omega arith)
   ]

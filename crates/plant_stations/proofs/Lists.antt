@@ -1,5 +1,5 @@
 -- Lists by place.
-use Rattle.std.proofs.Common.{◌≡◌, ℕ, zero, suc, ◌+◌, ◌<◌, ◌≤◌, ◌≢◌, ◌⊎◌, ◌==◌, AllPairs, inl, inr, subst, Bool, true, false, not, cond, List, [], ◌∷◌, ◌++◌, length, take, drop, get_or, set, slice_get, position, Some, None, refl, sym, ◌∙◌, ap, arith, nat_lt}
+use Rattle.std.proofs.Common.{◌≡◌, ℕ, zero, suc, ◌<◌, ◌≢◌, ◌⊎◌, ◌==◌, AllPairs, inl, inr, subst, Bool, true, false, not, cond, List, [], ◌∷◌, ◌++◌, length, get_or, slice_get, position, Some, None, refl, sym, ◌∙◌, ap, arith, nat_lt}
 use Rattle.std.specs.List.{AllZip, Contains, position_or_len}
 use Rattle.std.proofs.lemmas.Bool.{ltb-false, cases_Bool, eqb-true, eqb-false}
 use Rattle.irt_switch.proofs.Members.{here, later, first_or_later}
@@ -53,10 +53,10 @@ at_end [] y = here y []
 at_end (z ∷ zs) y = later z (zs ++ y ∷ []) y (at_end zs y)
 
 pub front_or_end : {A : Type 0} (xs : List A) (y x : A) → Contains (xs ++ y ∷ []) x → Contains xs x ⊎ (y ≡ x)
-front_or_end [] y x is = elim (first_or_later y [] x is) [ | inl same ↦ inr same | inr more ↦ absurd (nothing x more) ]
+front_or_end [] y x is = elim (first_or_later y [] x is) [ inl same ↦ inr same | inr more ↦ absurd (nothing x more) ]
 front_or_end (z ∷ zs) y x is = elim (first_or_later z (zs ++ y ∷ []) x is) [
   | inl same ↦ inl (subst (λ v. Contains (z ∷ zs) v) same (here z zs))
-  | inr more ↦ elim (front_or_end zs y x more) [ | inl front ↦ inl (later z zs x front) | inr end ↦ inr end ]
+  | inr more ↦ elim (front_or_end zs y x more) [ inl front ↦ inl (later z zs x front) | inr end ↦ inr end ]
 ]
 
 -- ---- numbers in a list

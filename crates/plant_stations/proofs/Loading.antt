@@ -1,49 +1,37 @@
 -- What the senders of an accepted plan load.
-use Rattle.std.proofs.Common.{◌≡◌, ◌≢◌, ◌↔◌, ℕ, zero, suc, ◌+◌, ◌/◌, ◌==◌, ◌<◌, Bool, true, false, if◌then◌else◌, List, [], ◌∷◌, length, take, drop, map, get_or, find, slice_get, Option, Some, None, AllPairs, inl, inr, refl, sym, ◌∙◌, ap, subst, arith}
+use Rattle.std.proofs.Common.{◌≡◌, ◌≢◌, ◌↔◌, ℕ, zero, suc, ◌+◌, ◌==◌, ◌<◌, Bool, true, false, if◌then◌else◌, List, [], ◌∷◌, length, take, drop, map, get_or, slice_get, Option, Some, None, AllPairs, refl, sym, ◌∙◌, ap, subst, arith}
 use Rattle.std.specs.Prelude.{option_map, unwrap_or}
 use Rattle.std.specs.List.{AllZip, Contains, IsDistinct, AllByRecursion, position_or_len}
-use Rattle.std.specs.Option.{option_map_or}
-use Rattle.std.proofs.lemmas.Bool.{cases_Bool, eq-eqb, eqb-true}
-use Rattle.std.proofs.lemmas.List.{length-map}
+use Rattle.std.proofs.lemmas.Bool.{eq-eqb, eqb-true}
 use Rattle.std.proofs.lemmas.List.Elements.{All-from_recursion}
 use Rattle.std.proofs.lemmas.List.Folds.{find_at}
 use Rattle.std.proofs.lemmas.Option.{same_Some, slice_get-map, slice_get_within, slice_get-get_or, get_or_from_slice_get}
-use Rattle.irt_base.specs.Cycle.{IsDue}
 use Rattle.irt_base.specs.Valid.{IsBundle}
-use Rattle.irt_base.specs.Words.{bytes_of}
-use Rattle.irt_base.specs.declared.limits.TheConstants.{WORD_BYTES}
 use Rattle.irt_base.specs.declared.blocks.Bundle.{Bundle}
 use Rattle.irt_base.specs.declared.blocks.Entry.{Entry}
 use Rattle.irt_base.specs.declared.blocks.FrameBlock.{FrameBlock}
 use Rattle.irt_base.specs.declared.plants.Demand.{Demand}
-use Rattle.irt_base.specs.declared.plants.Device.{Device}
 use Rattle.irt_base.specs.declared.plants.Plant.{Plant}
 use Rattle.irt_switch.specs.Release.{is_provided}
-use Rattle.irt_switch.proofs.Members.{found_in, from_filter, from_map, pairs_map}
-use Rattle.iso_rules.specs.Image.{loaded_words, sent_words}
+use Rattle.irt_switch.proofs.Members.{found_in, from_filter, pairs_map}
 use Rattle.iso_rules.specs.Station.{data_words, words_in, part_of, entries_at, provided_of}
 use Rattle.iso_rules.proofs.Serving.{own_entry}
 use Rattle.iso_station.specs.Kept.{IsWhole}
-use Rattle.iso_station.specs.Mark.{counter_of}
-use Rattle.iso_station.specs.Provider.{HasPlace, IsProvided, sent_frame, new_provider}
-use Rattle.iso_station.specs.declared.mark.TheConstants.{DATA_STATUS}
+use Rattle.iso_station.specs.Provider.{HasPlace, IsProvided}
 use Rattle.iso_station.proofs.InPlace.{whole_of_block}
 use Rattle.plan_rules.specs.Frames.{IsAsDemanded}
 use Rattle.plan_rules.specs.Headers.{IsHeader}
-use Rattle.plan_rules.specs.Once.{IsDueFrame}
 use Rattle.plan_rules.specs.Places.{IsAccepted, place_of}
 use Rattle.plan_rules.specs.Plan.{IsPlan, setup_of}
 use Rattle.plan_rules.specs.Tree.{demand_of}
 use Rattle.plan_rules.specs.Way.{Setup, entry_at}
 use Rattle.plant_rules.specs.Meets.{IsDemand}
-use Rattle.plant_rules.specs.Words.{same_frame, demand_words}
-use Rattle.rtc3_frame.specs.Frame.{frame_bytes, sent_fields}
+use Rattle.plant_rules.specs.Words.{same_frame}
 use Rattle.rtc3_frame.specs.declared.frame.TheConstants.{HEAD, TAIL}
-use Rattle.plant_stations.specs.Loaded.{AreWords, AreOutputs, HaveWidths, HasLoaded, AreLoaded, AreReady, AreLikeLong, AreSent}
-use Rattle.plant_stations.specs.Whole.{HaveRoom, place_in, sender_of, AreSenders, AreStations}
+use Rattle.plant_stations.specs.Loaded.{AreWords, HaveWidths, AreReady}
+use Rattle.plant_stations.specs.Whole.{HaveRoom, place_in, sender_of, AreSenders}
 use Rattle.plant_stations.specs.declared.sender.Sender.{Sender}
-use Rattle.plant_stations.proofs.Lists.{member, by_number, some_at}
-use Rattle.plant_stations.proofs.Senders.{length-part}
+use Rattle.plant_stations.proofs.Lists.{member, some_at}
 
 -- ---- words that are cut
 
@@ -233,12 +221,12 @@ module _ (plant : Plant) (bundles : List Bundle) (plan : IsPlan plant bundles) (
             subst (λ (x : Sender). AllPairs (λ (a b : ℕ). a ≢ b) x.places) (sym own.is)
             (pairs_map (place_in plant.demands) (λ (a b : ℕ). a ≢ b) es
             (λ i j x before below same.
-                let first = served device (get_or es i x) (in_es i x (omega arith)) in
-                let second = served device (get_or es j x) (in_es j x below) in
-                let one : first.d ≡ second.d =
-                same_Some first.d second.d (sym first.stands ∙ ap (slice_get plant.demands) same ∙ second.stands) in
-                let frames_same = sym first.frame ∙ ap (λ (y : Demand). y.frame.0) one ∙ second.frame in
-                let less = up i j x before below in omega (arith, frames_same, less)))
+            let first = served device (get_or es i x) (in_es i x (omega arith)) in
+            let second = served device (get_or es j x) (in_es j x below) in
+            let one : first.d ≡ second.d =
+            same_Some first.d second.d (sym first.stands ∙ ap (slice_get plant.demands) same ∙ second.stands) in
+            let frames_same = sym first.frame ∙ ap (λ (y : Demand). y.frame.0) one ∙ second.frame in
+            let less = up i j x before below in omega (arith, frames_same, less)))
           where
             here_is : (xs : List Entry) (i : ℕ) (x : Entry) → i < length xs → slice_get xs i ≡ Some (get_or xs i x)
             here_is xs i x within = slice_get-get_or xs i x within

@@ -1,5 +1,5 @@
 -- A consumer that takes what came to its device.
-use Rattle.std.proofs.Common.{◌≡◌, ◌↔◌, ◌+◌, ℕ, List, [], ◌∷◌, ◌++◌, slice_get, map, Some, Ok, inl, inr, refl, sym, ◌∙◌, ap, subst, take, arith}
+use Rattle.std.proofs.Common.{◌≡◌, ◌↔◌, ◌+◌, ℕ, List, [], ◌∷◌, ◌++◌, slice_get, map, Some, Ok, inl, inr, refl, sym, ◌∙◌, ap, subst, arith}
 use Rattle.std.specs.List.{Contains}
 use Rattle.std.proofs.lemmas.List.Sums.{sum_by-cons}
 use Rattle.std.proofs.lemmas.Option.{same_Some}
@@ -108,10 +108,10 @@ module _ (device : ℕ) (frames : List (List ℕ)) (came : List Came) (old : Con
   answered Ignored one now new bytes takes mine at taken kept unchanged =
       subst (TakesFrames device frames (came ++ one ∷ []) old) (sym (unchanged refl))
       (passed one now takes (λ other here stands would.
-          let read : other ≡ bytes = same_Some other bytes (sym stands ∙ at) in
-          let is : IsTakenFrame now bytes = subst (λ (s : ConsumerState). IsTakenFrame s bytes) (sym takes.state)
-          (still_taken takes.fields old bytes (subst (IsTakenFrame old) read would)) in
-          let both : Ignored ≡ Taken = taken.1 is in absurd (cc)))
+      let read : other ≡ bytes = same_Some other bytes (sym stands ∙ at) in
+      let is : IsTakenFrame now bytes = subst (λ (s : ConsumerState). IsTakenFrame s bytes) (sym takes.state)
+      (still_taken takes.fields old bytes (subst (IsTakenFrame old) read would)) in
+      let both : Ignored ≡ Taken = taken.1 is in absurd (cc)))
 
 -- the cycle that goes on is the same
 pub cycle_kept : (r : Accept) (now new : ConsumerState) (bytes : List ℕ) → ((r ≡ Taken) ↔ IsTakenFrame now bytes) →

@@ -1,10 +1,10 @@
 -- Senders that load one after the other.
-use Rattle.std.proofs.Common.{◌≡◌, ◌≢◌, ℕ, zero, suc, ◌+◌, ◌*◌, ◌/◌, ◌%◌, ◌<◌, ◌≤◌, Bool, true, false, if◌then◌else◌, List, [], ◌∷◌, ◌++◌, length, take, drop, slice_get, Some, None, AllPairs, ◌==◌, ◌⊎◌, inl, inr, refl, sym, ◌∙◌, ap, subst, arith, length-append}
+use Rattle.std.proofs.Common.{◌≡◌, ◌≢◌, ℕ, zero, suc, ◌+◌, ◌%◌, ◌<◌, ◌≤◌, Bool, true, false, if◌then◌else◌, List, [], ◌∷◌, ◌++◌, length, take, drop, slice_get, Some, AllPairs, ◌==◌, ◌⊎◌, inl, inr, refl, sym, ◌∙◌, ap, subst, arith, length-append}
 use Rattle.std.specs.List.{AllZip}
 use Rattle.std.proofs.lemmas.Bool.{cases_Bool, eq-eqb, ne_eqb, eqb-true}
 use Rattle.std.proofs.lemmas.List.{length-take, length-drop}
 use Rattle.std.proofs.lemmas.List.Sums.{sum_by-cons}
-use Rattle.std.proofs.lemmas.Option.{same_Some, slice_get_within, slice_get_read, get_or_from_slice_get}
+use Rattle.std.proofs.lemmas.Option.{same_Some, slice_get_within, get_or_from_slice_get}
 use Rattle.byteorder.specs.Endian.{big_bytes}
 use Rattle.irt_base.proofs.WordLaws.{length-bytes_of}
 use Rattle.irt_base.specs.Cycle.{IsDue}
@@ -20,7 +20,7 @@ use Rattle.rtc3_frame.specs.Frame.{frame_bytes, sent_fields}
 use Rattle.rtc3_frame.specs.declared.frame.TheConstants.{HEAD, TAIL}
 use Rattle.plant_stations.specs.Loaded.{AreWords, AreReady, IsSent, AreLikeLong, AreSent}
 use Rattle.plant_stations.specs.declared.sender.Sender.{Sender}
-use Rattle.plant_stations.proofs.Lists.{member, in_or_not, one_place, zip_at, zip_map, some_at}
+use Rattle.plant_stations.proofs.Lists.{in_or_not, one_place, zip_at, zip_map, some_at}
 
 -- ---- how long things are
 
@@ -65,7 +65,6 @@ entry_valid es n e whole is =
 module _ (p : ProviderState) (k : ℕ) (words places : List ℕ) (old new : List (List ℕ)) (whole : IsWhole p.entries)
     (count : length words ≡ words_in p.entries) (fits : AllZip (HasPlace old) p.entries places) (apart : AllPairs (λ (a b : ℕ). a ≢ b) places)
     (loaded : IsLoaded p k words places old new) where
-
   same_entry : (n place : ℕ) (e d : Entry) → slice_get p.entries n ≡ Some e → slice_get places n ≡ Some place → IsProvided p places d place → e ≡ d
   same_entry n place e d stands at by =
       let one : by.number ≡ n = one_place places by.number n place apart by.at at in
@@ -85,7 +84,7 @@ module _ (p : ProviderState) (k : ℕ) (words places : List ℕ) (old new : List
             ∙ sym room.count ∙ ap length was
         | inr not ↦
             let kept = loaded.other place (λ d by due.
-                let now : true ≡ false = sym (eq-eqb (k % e.ratio + 1) e.phase (subst (λ (x : Entry). IsDue k x.ratio x.phase) (sym (same_entry n place e d stands at by)) due)) ∙ not in absurd (cc)) in
+            let now : true ≡ false = sym (eq-eqb (k % e.ratio + 1) e.phase (subst (λ (x : Entry). IsDue k x.ratio x.phase) (sym (same_entry n place e d stands at by)) due)) ∙ not in absurd (cc)) in
             ap length (same_Some b a (sym after ∙ kept ∙ before))
       ]
 

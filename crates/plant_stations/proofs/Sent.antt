@@ -1,5 +1,5 @@
 -- What is in the frames when all senders have loaded.
-use Rattle.std.proofs.Common.{◌≡◌, ◌↔◌, ℕ, ◌/◌, ◌<◌, List, [], length, map, slice_get, Some, refl, sym, ◌∙◌, ap, subst, arith}
+use Rattle.std.proofs.Common.{◌≡◌, ℕ, ◌/◌, ◌<◌, List, [], length, map, slice_get, Some, refl, sym, ◌∙◌, ap, subst, arith}
 use Rattle.std.specs.Prelude.{option_map}
 use Rattle.std.specs.List.{Contains}
 use Rattle.std.specs.Option.{option_map_or}
@@ -22,13 +22,12 @@ use Rattle.plan_rules.specs.Places.{IsAccepted}
 use Rattle.plan_rules.specs.Plan.{IsPlan, setup_of}
 use Rattle.plan_rules.specs.Tree.{demand_of}
 use Rattle.plan_rules.specs.Way.{Setup, entry_at}
-use Rattle.plant_rules.specs.Words.{demand_words}
 use Rattle.rtc3_frame.specs.Frame.{frame_bytes, sent_fields}
 use Rattle.plant_stations.specs.Loaded.{AreWords, AreOutputs, HaveWidths, HasLoaded, AreLoaded, IsSent, AreLikeLong, AreSent}
 use Rattle.plant_stations.specs.Whole.{HaveRoom, place_in, sender_of, AreSenders}
 use Rattle.plant_stations.specs.declared.sender.Sender.{Sender}
 use Rattle.plant_stations.proofs.Lists.{by_number, some_at}
-use Rattle.plant_stations.proofs.Loading.{ServesProvided, IsServed, IsSender, served, sender_is, demand_is, bundle_is, factor_is, one_number, words_part}
+use Rattle.plant_stations.proofs.Loading.{ServesProvided, served, sender_is, demand_is, bundle_is, factor_is, one_number, words_part}
 use Rattle.plant_stations.proofs.Senders.{length-part}
 
 pub room_after : (demands : List Demand) (old new : List (List ℕ)) → HaveRoom demands old → AreLikeLong old new → HaveRoom demands new
@@ -45,7 +44,6 @@ module _ (plant : Plant) (bundles : List Bundle) (plan : IsPlan plant bundles) (
     (serves : ServesProvided plant bundles plan accepted) (senders : List Sender) (are : AreSenders plant bundles senders)
     (taken : ℕ → ℕ → List ℕ) (k : ℕ) (outputs old new : List (List ℕ)) (wide : HaveWidths (setup_of plant bundles) outputs)
     (outs : AreOutputs (setup_of plant bundles) taken k outputs) (sent : AreSent senders k outputs old new) where
-
   abbrev setup : Setup
   setup = setup_of plant bundles
 

@@ -1,19 +1,16 @@
 -- The stations after a cycle.
-use Rattle.std.proofs.Common.{◌≡◌, ◌≢◌, ◌⊎◌, ℕ, zero, suc, ◌+◌, ◌==◌, ◌<◌, ◌≤◌, Bool, true, false, if◌then◌else◌, List, [], ◌∷◌, length, map, slice_get, Option, Some, IsSome, All, inl, inr, refl, sym, ◌∙◌, ap, subst, arith}
-use Rattle.std.specs.List.{AllZip, Contains, concat}
+use Rattle.std.proofs.Common.{◌≡◌, ◌⊎◌, ℕ, zero, suc, ◌+◌, ◌==◌, ◌<◌, Bool, if◌then◌else◌, List, [], ◌∷◌, map, Option, inl, inr, refl, sym, ◌∙◌, ap, subst, arith}
+use Rattle.std.specs.List.{AllZip, Contains}
 use Rattle.std.proofs.lemmas.Bool.{eq-eqb, ne_eqb}
-use Rattle.std.proofs.lemmas.List.Elements.{All-from_recursion}
 use Rattle.std.proofs.lemmas.List.Sums.{sum_by-cons}
-use Rattle.std.proofs.lemmas.Option.{same_Some, slice_get_within, slice_get_read, get_or_from_slice_get}
 use Rattle.cycle_frames.specs.Came.{HaveCome}
 use Rattle.cycle_frames.specs.declared.came.Came.{Came}
 use Rattle.irt_base.specs.declared.blocks.Bundle.{Bundle}
 use Rattle.irt_base.specs.declared.blocks.Entry.{Entry}
-use Rattle.irt_base.specs.declared.plants.App.{App}
 use Rattle.irt_base.specs.declared.plants.Plant.{Plant}
 use Rattle.iso_rules.specs.Hold.{IsHeldOf}
 use Rattle.iso_rules.specs.Image.{IsPart, IsImage, AreArrivals}
-use Rattle.iso_rules.specs.Station.{data_words, words_in, entries_at, consumed_of, input_count}
+use Rattle.iso_rules.specs.Station.{data_words, words_in, entries_at, consumed_of}
 use Rattle.iso_station.specs.Consumer.{ConsumerState, if_frame, with_frame, after_cycle, image_in, count_of, image_count}
 use Rattle.iso_station.specs.Cycles.{with_frames, consumer_after, came_by, IsHeldImage}
 use Rattle.iso_station.specs.Held.{Held, ended}
@@ -23,14 +20,13 @@ use Rattle.plan_rules.specs.Places.{IsAccepted}
 use Rattle.plan_rules.specs.Plan.{IsPlan, setup_of}
 use Rattle.plan_rules.specs.Way.{Setup}
 use Rattle.plan_rules.specs.World.{WorldRow}
-use Rattle.plant_rules.specs.Meets.{IsApp}
 use Rattle.rtc3_frame.specs.Frame.{Fields}
 use Rattle.plant_stations.specs.Loaded.{AreLoaded}
-use Rattle.plant_stations.specs.Stations.{HasArrived, HasTaken, AreImages, AreTrueImages}
-use Rattle.plant_stations.specs.Taken.{CanPlay, TakesFrames, PlaysCycle, PlayCycle}
-use Rattle.plant_stations.specs.Whole.{IsConsumerOf, AreConsumers}
+use Rattle.plant_stations.specs.Stations.{HasArrived, HasTaken}
+use Rattle.plant_stations.specs.Taken.{PlaysCycle}
+use Rattle.plant_stations.specs.Whole.{IsConsumerOf}
 use Rattle.plant_stations.proofs.Arriving.{has_arrived}
-use Rattle.plant_stations.proofs.Lists.{some_at, zip_of}
+use Rattle.plant_stations.proofs.Lists.{zip_of}
 use Rattle.plant_stations.proofs.Loading.{entries_here}
 use Rattle.plant_stations.proofs.Receiving.{same_cycle}
 
@@ -99,13 +95,11 @@ before_or_now j k below = grind arith
 module _ (plant : Plant) (bundles : List Bundle) (plan : IsPlan plant bundles) (accepted : IsAccepted plant bundles) (world : List WorldRow)
     (taken : ℕ → ℕ → List ℕ) (k : ℕ) (frames : List (List ℕ)) (came : List Came) (loaded : AreLoaded (setup_of plant bundles) taken k frames)
     (have : HaveCome (setup_of plant bundles) world k came) where
-
   abbrev setup : Setup
   setup = setup_of plant bundles
 
   module _ (device : ℕ) (a b : ConsumerState) (out : List ℕ) (now : a.cycle ≡ k) (plays : PlaysCycle device frames came a b out)
       (has : HasTaken plant bundles world taken k device a) (own : IsConsumerOf has.bundle a) where
-
     abbrev since : ℕ → List Fields
     since = frames_with has.frames k plays.takes.fields
 
@@ -144,10 +138,10 @@ module _ (plant : Plant) (bundles : List Bundle) (plan : IsPlan plant bundles) (
               (zip_of (λ (e : Entry) (part : List ℕ). IsHeldOf (λ c. came_by e (since c)) e k part) (IsPart setup world taken device k)
               (consumed_of has.bundle.frames.entries) shown.parts
               (λ e part is held. parts setup world taken device k e (λ c. came_by e (since c)) part
-                  (record {
-                    each = λ c close reach. (since_arrived c e (omega (arith, close)) is).each reach;
-                    only = λ c close some. (since_arrived c e (omega (arith, close)) is).only some;
-                  }) held)
+              (record {
+                each = λ c close reach. (since_arrived c e (omega (arith, close)) is).each reach;
+                only = λ c close some. (since_arrived c e (omega (arith, close)) is).only some;
+              }) held)
               shown.each);
           joined = plays.image ∙ ap image_in state_is ∙ shown.joined;
         }

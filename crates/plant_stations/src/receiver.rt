@@ -51,7 +51,14 @@ impl Receiver {
 
     /// Takes what came to the device in cycle `k`, the one that goes on, ends the cycle, and writes the image. It takes
     /// no memory.
-    pub fn play(&mut self, k: u32, device: DevId, frames: &Frames, came: &[Came], image: &mut Items<u64>)
+    pub fn play(
+        &mut self,
+        k: u32,
+        device: DevId,
+        frames: &Frames,
+        came: &[Came],
+        image: &mut Items<u64>,
+    )
         requires cycle { k ≡ self.old.cycle }
         requires run { k < MAX_CYCLES }
         requires came { All (λ (c : Came). c.demand < length frames.now) came.now }

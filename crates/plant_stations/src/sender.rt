@@ -29,7 +29,12 @@ pub struct Sender {
 
 impl Sender {
     /// The sender of a device with these blocks. It takes all the memory that it will use.
-    pub fn new(alloc: Global, plant: &Plant, bundle: &Bundle, device: DevId) -> Result<Sender, NoMemory>
+    pub fn new(
+        alloc: Global,
+        plant: &Plant,
+        bundle: &Bundle,
+        device: DevId,
+    ) -> Result<Sender, NoMemory>
         requires { IsBundle bundle.now }
         ensures { IfOk result (λ sender. sender ≡ sender_of plant.now bundle.now device.0) }
     {
@@ -49,8 +54,7 @@ impl Sender {
         ensures loaded { IsLoaded self.now.provider k words.now self.now.places frames.old frames.new }
         ensures range { AreWords words.now }
     {
-        self.provider
-            .load(k, words, self.places.as_slice(), frames);
+        self.provider.load(k, words, self.places.as_slice(), frames);
     }
 }
 

@@ -110,7 +110,14 @@ impl Stations {
     {
         consumers_hold();
         held_arrivals_are_parts();
-        play_all(self.plant.apps.as_slice(), &self.frames, k, came, self.receivers.as_mut_slice(), images);
+        play_all(
+            self.plant.apps.as_slice(),
+            &self.frames,
+            k,
+            came,
+            self.receivers.as_mut_slice(),
+            images,
+        );
     }
 }
 

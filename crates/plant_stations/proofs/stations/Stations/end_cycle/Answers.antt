@@ -1,8 +1,7 @@
-use Rattle.std.proofs.Common.{◌≡◌, ℕ, ◌+◌, ◌++◌, List, All, length, take, drop, sym, ◌∙◌, ap, subst, arith}
+use Rattle.std.proofs.Common.{◌≡◌, ℕ, ◌+◌, ◌++◌, List, All, length, take, drop, sym, subst, arith}
 use Rattle.cycle_frames.specs.Came.{HaveCome}
 use Rattle.irt_base.specs.declared.plants.App.{App}
 use Rattle.iso_station.specs.Consumer.{ConsumerState}
-use Rattle.plan_rules.specs.World.{WorldRow}
 use Rattle.plant_stations.specs.Loaded.{AreLoaded}
 use Rattle.plant_stations.specs.Stations.{StationsState, setup_in, AreInCycle, HavePlayed, AreImages, AreTrueImages}
 use Rattle.plant_stations.specs.Taken.{CanPlay, PlayCycle}
@@ -67,13 +66,13 @@ returns-clause-played c =
     let frames = c.self.inside.frames in
     λ world taken.
     subst (λ (s : StationsState). HavePlayed world taken c.args.k s → AreLoaded (setup_in s) taken c.args.k s.frames →
-        HaveCome (setup_in s) world c.args.k c.args.came.now →
-        HavePlayed world taken (c.args.k + 1) (record { plant = plant; bundles = bundles; consumers = take c.self.inside.receivers.len (new c ++ drop (length (new c)) (old c)); frames = frames }))
+    HaveCome (setup_in s) world c.args.k c.args.came.now →
+    HavePlayed world taken (c.args.k + 1) (record { plant = plant; bundles = bundles; consumers = take c.self.inside.receivers.len (new c ++ drop (length (new c)) (old c)); frames = frames }))
     c.self.view_is
     (λ played loaded have.
-        subst (λ (xs : List ConsumerState). HavePlayed world taken (c.args.k + 1) (record { plant = plant; bundles = bundles; consumers = xs; frames = frames })) (sym (whole c))
-        (next_played plant bundles held.plan c.args.k frames c.args.came.now (old c) (new c) (images c) held.consume (now c) (play c)
-        held.accepted world taken frames played loaded have frames))
+    subst (λ (xs : List ConsumerState). HavePlayed world taken (c.args.k + 1) (record { plant = plant; bundles = bundles; consumers = xs; frames = frames })) (sym (whole c))
+    (next_played plant bundles held.plan c.args.k frames c.args.came.now (old c) (new c) (images c) held.consume (now c) (play c)
+    held.accepted world taken frames played loaded have frames))
 
 pub returns-clause-images : goal.returns-clause-images
 returns-clause-images c =
@@ -83,11 +82,11 @@ returns-clause-images c =
     let frames = c.self.inside.frames in
     λ world taken.
     subst (λ (s : StationsState). HavePlayed world taken c.args.k s → AreLoaded (setup_in s) taken c.args.k s.frames →
-        HaveCome (setup_in s) world c.args.k c.args.came.now → AreTrueImages (setup_in s) world taken c.args.k (images c))
+    HaveCome (setup_in s) world c.args.k c.args.came.now → AreTrueImages (setup_in s) world taken c.args.k (images c))
     c.self.view_is
     (λ played loaded have.
-        next_true plant bundles held.plan c.args.k frames c.args.came.now (old c) (new c) (images c) held.consume (now c) (play c)
-        held.accepted world taken frames played loaded have c.consumers_hold.ensures c.held_arrivals_are_parts.ensures)
+    next_true plant bundles held.plan c.args.k frames c.args.came.now (old c) (new c) (images c) held.consume (now c) (play c)
+    held.accepted world taken frames played loaded have c.consumers_hold.ensures c.held_arrivals_are_parts.ensures)
 
 pub returns-clause-widths : goal.returns-clause-widths
 returns-clause-widths c =

@@ -1,4 +1,4 @@
-use Rattle.std.proofs.Common.{◌≡◌, ℕ, List, sym, ◌∙◌, subst}
+use Rattle.std.proofs.Common.{ℕ, List, sym, subst}
 use Rattle.plant_stations.specs.Loaded.{AreOutputs, HaveWidths, AreLoaded, AreReady, AreSent}
 use Rattle.plant_stations.specs.Stations.{StationsState, setup_in}
 use Rattle.plant_stations.specs.declared.sender.Sender.{Sender}
@@ -36,6 +36,6 @@ returns-clause-frames c =
     let serves = c.stations_serve_demands.ensures.provided plant bundles held.plan held.accepted in
     let sent = subst (λ (s : List Sender). AreSent s c.args.k c.args.outputs.now c.self.inside.frames c.load_all.new.frames) c.as_slice.ensures.value c.load_all.ensures in
     subst (λ (s : StationsState). (taken : ℕ → ℕ → List ℕ) → AreOutputs (setup_in s) taken c.args.k c.args.outputs.now →
-        AreLoaded (setup_in s) taken c.args.k c.load_all.new.frames) c.self.view_is
+    AreLoaded (setup_in s) taken c.args.k c.load_all.new.frames) c.self.view_is
     (λ taken outs. are_loaded plant bundles held.plan held.accepted serves c.self.inside.senders.items held.provide taken c.args.k c.args.outputs.now
-        c.self.inside.frames c.load_all.new.frames wide outs sent)
+    c.self.inside.frames c.load_all.new.frames wide outs sent)
