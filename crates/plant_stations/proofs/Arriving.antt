@@ -1,5 +1,5 @@
 -- What a consumer took in a cycle is what had to reach its device, with the words that were loaded.
-use Rattle.std.proofs.Common.{◌≡◌, ℕ, ◌==◌, Bool, true, List, [], ◌∷◌, filter, slice_get, Option, Some, None, IsSome, refl, sym, ◌∙◌, ap, subst, arith}
+use Rattle.std.proofs.Common.{◌≡◌, ℕ, ◌==◌, Bool, List, [], ◌∷◌, filter, slice_get, Option, Some, None, IsSome, refl, sym, ◌∙◌, ap, subst, arith}
 use Rattle.std.specs.Prelude.{option_map}
 use Rattle.std.specs.List.{Contains, last_or, position_or_len}
 use Rattle.std.proofs.lemmas.Bool.{eq-eqb, eqb-true}
@@ -125,24 +125,38 @@ module _ (plant : Plant) (bundles : List Bundle) (plan : IsPlan plant bundles) (
           good = subst IsGood (sym read.good) good_status;
         }
 
+    -- The words are those of any frame of the entry's that was taken.
+    came_so : (e : Entry) (f : Fields) → Contains takes.fields f → e.frame.0 ≡ f.frame → came_by e takes.fields ≡ Some (loaded_words setup taken k e.frame.0)
+    came_so e f has same =
+        let own = in_filter (of_entry e) takes.fields f has (eq-eqb e.frame.0 f.frame same) in
+        let (last, is, among) = last_of None (filter (of_entry e) takes.fields) f own in last_words e last is (last_true e last is)
+      where
+        last_words : (x : Entry) (g : Fields) → last_or None (filter (of_entry x) takes.fields) ≡ Some g → IsTrue g × (x.frame.0 ≡ g.frame) →
+            came_by x takes.fields ≡ Some (loaded_words setup taken k x.frame.0)
+        last_words x g is (so, named) =
+            ap (option_map (λ (y : Fields). words_of y.csdu)) is ∙ ap Some (so.words ∙ ap (loaded_words setup taken k) (sym named))
+
+    -- By the number of its demand, the frame of an entry that has to reach the device came, and was taken.
+    comes_at : (e : Entry) → Contains (consumed_of bundle.frames.entries) e → (reach : HasToReach setup world k device e.frame.0) → (number : ℕ) →
+        slice_get plant.demands number ≡ Some reach.demand → reach.demand.frame.0 ≡ e.frame.0 → HasToReach setup world k device reach.demand.frame.0 →
+        HasRead setup taken k reach.demand (slice_get frames number) → came_by e takes.fields ≡ Some (loaded_words setup taken k e.frame.0)
+    comes_at e has reach number at named to_d read =
+        let one : Came = record { device = record { 0 = device }; demand = number } in
+        let stands : Contains came one = (have.each one reach.demand at).1 to_d in
+        let by : CameAs device frames came read.f =
+        record { c = one; bytes = read.bytes; stands = stands; here = refl; at = read.stands; told = read.told } in
+        came_so e read.f (takes.all read.f by (is_taken e has reach number at named (slice_get frames number) read)) (sym named ∙ sym read.named)
+
     each_comes : (e : Entry) → Contains (consumed_of bundle.frames.entries) e → HasToReach setup world k device e.frame.0 →
         came_by e takes.fields ≡ Some (loaded_words setup taken k e.frame.0)
     each_comes e has reach =
-        let d = reach.demand in
         let number = position_or_len (λ (x : Demand). x.frame.0 == e.frame.0) plant.demands in
-        let at = at_demand plant bundles plan accepted e.frame.0 number d reach.due.demanded refl in
-        let named = asked_frame plant bundles plan accepted e.frame.0 d reach.due.demanded in
-        let to_d : HasToReach setup world k device d.frame.0 = subst (HasToReach setup world k device) (sym named) reach in
-        let one : Came = record { device = record { 0 = device }; demand = number } in
-        let stands : Contains came one = (have.each one d at).1 to_d in
-        let read = read_again plant bundles plan accepted taken k number d (slice_get frames number) at (loaded number d at (due_demand number d at to_d)) in
-        let by : CameAs device frames came read.f =
-        record { c = one; bytes = read.bytes; stands = stands; here = refl; at = read.stands; told = read.told } in
-        let in_fields = takes.all read.f by (is_taken e has reach number at named (slice_get frames number) read) in
-        let passes : of_entry e read.f ≡ true = eq-eqb e.frame.0 read.f.frame (sym named ∙ sym read.named) in
-        let (last, is, among) = last_of None (filter (of_entry e) takes.fields) read.f (in_filter (of_entry e) takes.fields read.f in_fields passes) in
-        let (true_one, same) = last_true e last is in
-        ap (option_map (λ (f : Fields). words_of f.csdu)) is ∙ ap Some (true_one.words ∙ ap (loaded_words setup taken k) (sym same))
+        let at = at_demand plant bundles plan accepted e.frame.0 number reach.demand reach.due.demanded refl in
+        let named = asked_frame plant bundles plan accepted e.frame.0 reach.demand reach.due.demanded in
+        let to_d : HasToReach setup world k device reach.demand.frame.0 = subst (HasToReach setup world k device) (sym named) reach in
+        comes_at e has reach number at named to_d
+        (read_again plant bundles plan accepted taken k number reach.demand (slice_get frames number) at
+        (loaded number reach.demand at (due_demand number reach.demand at to_d)))
 
     only_those : (e : Entry) → IsSome (came_by e takes.fields) → HasToReach setup world k device e.frame.0
     only_those e some =

@@ -174,7 +174,7 @@ module _ (plant : Plant) (bundles : List Bundle) (plan : IsPlan plant bundles) (
           let (b, held) = some_at bundles device (omega (arith, within, count)) in
           record { bundle = b; held = held; is = are.each device b s held at; entries = ap provided_of (sym (entries_here plant bundles device b held)) }
 
-      in_place : (device : ℕ) (s : Sender) (e : Entry) (place : ℕ) → slice_get senders device ≡ Some s → IsProvided s.provider s.places e place →
+      pub in_place : (device : ℕ) (s : Sender) (e : Entry) (place : ℕ) → slice_get senders device ≡ Some s → IsProvided s.provider s.places e place →
           Contains (provided_of (entries_at setup device)) e × (place ≡ place_in plant.demands e)
       in_place device s e place at by =
           let own = sender_is device s at in

@@ -122,15 +122,18 @@ room_kept old new e place like room =
 -- those before a number are sent
 pub record AreSentTo (senders : List Sender) (k : ℕ) (outputs old frames : List (List ℕ)) (end : ℕ) : Type 0 where
   pub each : (n : ℕ) (s : Sender) (words : List ℕ) → n < end → slice_get senders n ≡ Some s → slice_get outputs n ≡ Some words → IsSent s k words frames
+  pub other : (place : ℕ) → ((n : ℕ) (s : Sender) (e : Entry) → slice_get senders n ≡ Some s → IsProvided s.provider s.places e place →
+      ¬ IsDue k e.ratio e.phase) → slice_get frames place ≡ slice_get old place
   pub lengths : AreLikeLong old frames
 
 pub none_sent : (senders : List Sender) (k : ℕ) (outputs frames : List (List ℕ)) → AreSentTo senders k outputs frames frames 0
-none_sent senders k outputs frames = record { each = λ n s words before. absurd (omega arith); lengths = like_itself frames }
+none_sent senders k outputs frames = record { each = λ n s words before. absurd (omega arith); other = λ place never. refl; lengths = like_itself frames }
 
 pub all_sent : (senders : List Sender) (k : ℕ) (outputs old frames : List (List ℕ)) (end : ℕ) → length senders ≤ end →
     AreSentTo senders k outputs old frames end → AreSent senders k outputs old frames
 all_sent senders k outputs old frames end past to = record {
   each = λ n s words is told. to.each n s words (let within = slice_get_within senders n s is in omega (arith, within, past)) is told;
+  other = to.other;
   lengths = to.lengths;
 }
 
@@ -161,6 +164,7 @@ sent_step senders k outputs old frames new i s words ready is told to loaded ran
         subst (λ (x : Sender). IsSent x k given new) one
         (subst (λ ws. IsSent s k ws new) same (record { due = loaded.due; range = range }))
   ];
+  other = λ place never. loaded.other place (λ e by. never i s e is by) ∙ to.other place never;
   lengths = like_more old frames new to.lengths
       (lengths_kept s.provider k words s.places frames new (ready.whole i s is) (ready.words i s words is told)
       (fits_now senders k outputs old frames i s ready to is) (ready.apart i s is) loaded);

@@ -23,11 +23,11 @@ use Rattle.plan_rules.specs.Plan.{IsPlan, setup_of}
 use Rattle.plan_rules.specs.Tree.{demand_of}
 use Rattle.plan_rules.specs.Way.{Setup, entry_at}
 use Rattle.rtc3_frame.specs.Frame.{frame_bytes, sent_fields}
-use Rattle.plant_stations.specs.Loaded.{AreWords, AreOutputs, HaveWidths, HasLoaded, AreLoaded, IsSent, AreLikeLong, AreSent}
+use Rattle.plant_stations.specs.Loaded.{AreWords, AreOutputs, HaveWidths, HasLoaded, AreLoaded, OthersStay, IsSent, AreLikeLong, AreSent}
 use Rattle.plant_stations.specs.Whole.{HaveRoom, place_in, sender_of, AreSenders}
 use Rattle.plant_stations.specs.declared.sender.Sender.{Sender}
 use Rattle.plant_stations.proofs.Lists.{by_number, some_at}
-use Rattle.plant_stations.proofs.Loading.{ServesProvided, served, sender_is, demand_is, bundle_is, factor_is, one_number, words_part}
+use Rattle.plant_stations.proofs.Loading.{ServesProvided, served, sender_is, in_place, demand_is, bundle_is, factor_is, one_number, words_part}
 use Rattle.plant_stations.proofs.Senders.{length-part}
 
 pub room_after : (demands : List Demand) (old new : List (List ℕ)) → HaveRoom demands old → AreLikeLong old new → HaveRoom demands new
@@ -102,3 +102,25 @@ module _ (plant : Plant) (bundles : List Bundle) (plan : IsPlan plant bundles) (
       let (s, there) = some_at senders n (omega (arith, within, count, many)) in
       let (words, told) = some_at outputs n (omega (arith, within, wides)) in
       by_entry number d s e words at due there told has named
+
+module _ (plant : Plant) (bundles : List Bundle) (plan : IsPlan plant bundles) (accepted : IsAccepted plant bundles)
+    (serves : ServesProvided plant bundles plan accepted) (senders : List Sender) (are : AreSenders plant bundles senders)
+    (k : ℕ) (outputs old new : List (List ℕ)) (sent : AreSent senders k outputs old new) where
+  -- the demand at the place of an entry that is due is due
+  due_there : (number : ℕ) (d : Demand) (n : ℕ) (s : Sender) (e : Entry) → slice_get plant.demands number ≡ Some d → slice_get senders n ≡ Some s →
+      IsProvided s.provider s.places e number → IsDue k e.ratio e.phase → IsDueFrame (setup_of plant bundles) k d.frame.0 d
+  due_there number d n s e at there by due =
+      let (has, place) = in_place plant bundles plan accepted serves senders are n s e number there by in
+      let is = served plant bundles plan accepted serves n e has in
+      let one : is.d ≡ d = same_Some is.d d (sym is.stands ∙ ap (slice_get plant.demands) (sym place) ∙ at) in
+      subst (λ (x : Demand). IsDueFrame (setup_of plant bundles) k x.frame.0 x) one (record {
+        own = e;
+        demanded = ap (demand_of plant) is.frame ∙ is.asked;
+        stands =
+            ap (λ m. entry_at (setup_of plant bundles) m is.d.frame.0) is.provider
+            ∙ ap (entry_at (setup_of plant bundles) n) is.frame ∙ is.at;
+        due = due;
+      })
+
+  pub others_stay : OthersStay (setup_of plant bundles) k old new
+  others_stay number d at never = sent.other number (λ n s e there by due. never (due_there number d n s e at there by due))

@@ -45,6 +45,12 @@ AreLoaded setup taken k frames =
     (number : ℕ) (d : Demand) → slice_get setup.plant.demands number ≡ Some d → IsDueFrame setup k d.frame.0 d →
     HasLoaded setup taken k d (slice_get frames number)
 
+-- The frame of each demand that is not due stays as it was.
+abbrev pub OthersStay : Setup → ℕ → List (List ℕ) → List (List ℕ) → Type 0
+OthersStay setup k old new =
+    (number : ℕ) (d : Demand) → slice_get setup.plant.demands number ≡ Some d → ¬ IsDueFrame setup k d.frame.0 d →
+    slice_get new number ≡ slice_get old number
+
 -- ---- senders, one after the other
 
 -- Some senders can load these words: there are as many as the frames of each take, there is room for each frame at its own
@@ -70,7 +76,9 @@ pub record AreLikeLong (old new : List (List ℕ)) : Type 0 where
   pub count : length new ≡ length old
   pub each : (place : ℕ) (a b : List ℕ) → slice_get old place ≡ Some a → slice_get new place ≡ Some b → length b ≡ length a
 
--- The frames of all senders are so.
+-- The frames of all senders are so, and nothing else changed.
 pub record AreSent (senders : List Sender) (k : ℕ) (outputs old new : List (List ℕ)) : Type 0 where
   pub each : (n : ℕ) (s : Sender) (words : List ℕ) → slice_get senders n ≡ Some s → slice_get outputs n ≡ Some words → IsSent s k words new
+  pub other : (place : ℕ) → ((n : ℕ) (s : Sender) (e : Entry) → slice_get senders n ≡ Some s → IsProvided s.provider s.places e place →
+      ¬ IsDue k e.ratio e.phase) → slice_get new place ≡ slice_get old place
   pub lengths : AreLikeLong old new

@@ -8,7 +8,7 @@ ghost use Rattle.irt_base.specs.declared.limits.TheConstants.{MAX_CYCLES};
 ghost use Rattle.plan_rules.specs.Places.{IsAccepted};
 ghost use Rattle.plan_rules.specs.Plan.{IsPlan};
 ghost use Rattle.plan_rules.specs.World.{WorldRow};
-ghost use Rattle.plant_stations.specs.Loaded.{AreOutputs, HaveWidths, AreLoaded};
+ghost use Rattle.plant_stations.specs.Loaded.{AreOutputs, HaveWidths, AreLoaded, OthersStay};
 ghost use Rattle.plant_stations.specs.Stations.{setup_in, AreInCycle, HavePlayed, AreImages, AreTrueImages};
 ghost use Rattle.plant_stations.specs.Taken.{CanPlay, PlayCycle};
 
@@ -60,6 +60,7 @@ impl Stations {
         ensures plant { IfOk result (λ s. (s.plant ≡ plant.now) × (s.bundles ≡ bundles.now)) }
         ensures begun { IfOk result (λ s. (world : List WorldRow) (taken : ℕ → ℕ → List ℕ) → HavePlayed world taken 0 s) }
         ensures cycle { IfOk result (AreInCycle 0) }
+        ensures room { IfOk result (λ s. length s.frames ≡ length plant.now.demands) }
     {
         Ok(Stations {
             plant: plant.deep_copy(alloc)?,
@@ -70,12 +71,14 @@ impl Stations {
         })
     }
 
-    /// Writes the frames that are due in cycle `k`, with what the devices send. It takes no memory.
+    /// Writes the frames that are due in cycle `k`, with what the devices send, and no others. It takes no memory.
     pub fn load(&mut self, k: u32, outputs: &[Items<u64>])
         requires run { k < MAX_CYCLES }
         requires widths { HaveWidths (setup_in self.old) outputs.now }
         ensures frames { (taken : ℕ → ℕ → List ℕ) → AreOutputs (setup_in self.old) taken k outputs.now →
             AreLoaded (setup_in self.old) taken k self.new.frames }
+        ensures kept { OthersStay (setup_in self.old) k self.old.frames self.new.frames }
+        ensures room { length self.new.frames ≡ length self.old.frames }
         ensures plant { (self.new.plant ≡ self.old.plant) × (self.new.bundles ≡ self.old.bundles) }
         ensures consumers { self.new.consumers ≡ self.old.consumers }
     {

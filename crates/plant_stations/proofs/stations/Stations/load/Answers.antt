@@ -1,9 +1,9 @@
 use Rattle.std.proofs.Common.{ℕ, List, sym, subst}
-use Rattle.plant_stations.specs.Loaded.{AreOutputs, HaveWidths, AreLoaded, AreReady, AreSent}
+use Rattle.plant_stations.specs.Loaded.{AreOutputs, HaveWidths, AreLoaded, OthersStay, AreReady, AreSent}
 use Rattle.plant_stations.specs.Stations.{StationsState, setup_in}
 use Rattle.plant_stations.specs.declared.sender.Sender.{Sender}
 use Rattle.plant_stations.proofs.Loading.{ready}
-use Rattle.plant_stations.proofs.Sent.{room_after, are_loaded}
+use Rattle.plant_stations.proofs.Sent.{room_after, are_loaded, others_stay}
 use Rattle.plant_stations.proofs.stations.Stations.load.Goals as goal
 
 pub load_all-requires-clause-ready : goal.load_all-requires-clause-ready
@@ -39,3 +39,14 @@ returns-clause-frames c =
     AreLoaded (setup_in s) taken c.args.k c.load_all.new.frames) c.self.view_is
     (λ taken outs. are_loaded plant bundles held.plan held.accepted serves c.self.inside.senders.items held.provide taken c.args.k c.args.outputs.now
     c.self.inside.frames c.load_all.new.frames wide outs sent)
+
+pub returns-clause-kept : goal.returns-clause-kept
+returns-clause-kept c =
+    let held = c.self.invariant in
+    let plant = c.self.inside.plant in
+    let bundles = c.self.inside.bundles in
+    let serves = c.stations_serve_demands.ensures.provided plant bundles held.plan held.accepted in
+    let sent = subst (λ (s : List Sender). AreSent s c.args.k c.args.outputs.now c.self.inside.frames c.load_all.new.frames) c.as_slice.ensures.value c.load_all.ensures in
+    subst (λ (s : StationsState). OthersStay (setup_in s) c.args.k s.frames c.load_all.new.frames) c.self.view_is
+    (others_stay plant bundles held.plan held.accepted serves c.self.inside.senders.items held.provide c.args.k c.args.outputs.now
+    c.self.inside.frames c.load_all.new.frames sent)
