@@ -1,11 +1,10 @@
 -- Senders that load one after the other.
-use Rattle.std.proofs.Common.{◌≡◌, ◌≢◌, ℕ, zero, suc, ◌+◌, ◌%◌, ◌<◌, ◌≤◌, Bool, true, false, if◌then◌else◌, List, [], ◌∷◌, ◌++◌, length, take, drop, slice_get, Some, AllPairs, ◌==◌, ◌⊎◌, inl, inr, refl, sym, ◌∙◌, ap, subst, arith, length-append}
+use Rattle.std.proofs.Common.{◌≡◌, ◌≢◌, ℕ, zero, suc, ◌+◌, ◌%◌, ◌<◌, ◌≤◌, Bool, true, false, if◌then◌else◌, List, [], ◌∷◌, length, take, drop, slice_get, Some, AllPairs, ◌==◌, ◌⊎◌, inl, inr, refl, sym, ◌∙◌, ap, subst, arith, length-append}
 use Rattle.std.specs.List.{AllZip}
 use Rattle.std.proofs.lemmas.Bool.{cases_Bool, eq-eqb, ne_eqb, eqb-true}
 use Rattle.std.proofs.lemmas.List.{length-take, length-drop}
 use Rattle.std.proofs.lemmas.List.Sums.{sum_by-cons}
 use Rattle.std.proofs.lemmas.Option.{same_Some, slice_get_within, get_or_from_slice_get}
-use Rattle.byteorder.specs.Endian.{big_bytes}
 use Rattle.irt_base.proofs.WordLaws.{length-bytes_of}
 use Rattle.irt_base.specs.Cycle.{IsDue}
 use Rattle.irt_base.specs.Valid.{IsEntry}
@@ -16,7 +15,7 @@ use Rattle.irt_switch.proofs.Finding.{AreAscending, tail_up}
 use Rattle.iso_rules.specs.Station.{data_words, words_in, part_of}
 use Rattle.iso_station.specs.Kept.{IsWhole}
 use Rattle.iso_station.specs.Provider.{ProviderState, sent_frame, HasPlace, IsProvided, IsLoaded}
-use Rattle.rtc3_frame.specs.Frame.{frame_bytes, sent_fields}
+use Rattle.rtc3_frame.specs.Frame.{frame_bytes, sent_fields, tail_bytes}
 use Rattle.rtc3_frame.specs.declared.frame.TheConstants.{HEAD, TAIL}
 use Rattle.plant_stations.specs.Loaded.{AreWords, AreReady, IsSent, AreLikeLong, AreSent}
 use Rattle.plant_stations.specs.declared.sender.Sender.{Sender}
@@ -26,7 +25,7 @@ use Rattle.plant_stations.proofs.Lists.{in_or_not, one_place, zip_at, zip_map, s
 
 pub length-sent : (frame device : ℕ) (csdu : List ℕ) (counter status : ℕ) →
     length (frame_bytes (sent_fields frame device csdu counter status)) ≡ length csdu + (HEAD + TAIL)
-length-sent frame device csdu counter status = omega (arith, length-append csdu (big_bytes 2 counter ++ status ∷ 0 ∷ []))
+length-sent frame device csdu counter status = omega (arith, length-append csdu (tail_bytes counter status))
 
 rest_words : (x : Entry) (es : List Entry) (words : List ℕ) → length words ≡ words_in (x ∷ es) → length (drop (data_words x) words) ≡ words_in es
 rest_words x es words count = omega (arith, count, sum_by-cons data_words x es, length-drop (data_words x) words)

@@ -32,7 +32,7 @@ pub record HaveWidths (setup : Setup) (outputs : List (List ℕ)) : Type 0 where
   pub each : (device : ℕ) (words : List ℕ) → slice_get outputs device ≡ Some words → length words ≡ output_count setup device
 
 -- A demand's frame has what was loaded in cycle k, which is as many words as its data have, with the cycle's counter and
--- good data.
+-- good data. With factor 32 and 40 bytes of data these are 5 words, and the CycleCounter is 96 in cycle 3.
 pub record HasLoaded (setup : Setup) (taken : ℕ → ℕ → List ℕ) (k : ℕ) (d : Demand) (frame : Option (List ℕ)) : Type 0 where
   pub layout : frame ≡ Some (frame_bytes (sent_fields d.frame.0 d.provider.0 (bytes_of (loaded_words setup taken k d.frame.0))
       (counter_of setup.plant.factor k) DATA_STATUS))

@@ -15,7 +15,7 @@ pub record CameAs (device : ℕ) (frames : List (List ℕ)) (came : List Came) (
   pub at : slice_get frames c.demand ≡ Some bytes
   pub told : fields_at bytes ≡ Ok f
 
--- A consumer took the frames that came to its device and that it takes, and no others but such as came.
+-- What a consumer took of the frames that came to its device: each of them came, and each that it takes is among them.
 pub record TakesFrames (device : ℕ) (frames : List (List ℕ)) (came : List Came) (old new : ConsumerState) : Type 0 where
   pub fields : List Fields
   pub state : new ≡ with_frames fields old
