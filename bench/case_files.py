@@ -1,78 +1,20 @@
 #!/usr/bin/env python3
-"""Writes the files of crates/program_cases/data: plants, device files, and the command lines that are run over them.
+"""Writes the data of crates/program_cases: plants, device files, and the command lines that are run over them; and what these
+have to print.
 
-Each case has devices of its own, named by a letter and the number of the case, so that all files lie in one folder.
-What the lines have to print stands in crates/program_cases/stdout, and was worked out by hand.
+Each case gives its command lines, with status and text, which were worked out by hand by docs/FORMATS.md and docs/RULES.md.
+Devices are named by a letter and the number of a case, so that all files lie in one folder.
 """
 
-import pathlib
+import shutil
 
 import blocks
+from case_plants import DATA, RED, Case
+from case_rules import rules
+from case_walks import walks
+from case_words import words
 
-DATA = pathlib.Path(__file__).resolve().parent.parent / "crates/program_cases/data"
-RED = 250000  # ns
-
-
-class Case:
-    def __init__(self, number):
-        self.number = number
-        self.text = ""
-        self.ports = {}
-        self.modes = {}
-
-    def head(self, **keys):
-        values = dict(factor=32, window=1000, red_max=RED, orange=0, clocks='"world"')
-        values.update(keys)
-        self.text += "".join(f"{key} = {value}\n" for key, value in values.items())
-        return self
-
-    def sync(self, **values):
-        self.text += "[sync]\n" + "".join(f"{key} = {value}\n" for key, value in values.items())
-        return self
-
-    def device(self, letter, ports=1, mode="absolute"):
-        self.ports[letter] = ports
-        self.modes[letter] = mode
-        places = ", ".join(["[100, 200]"] * ports)
-        self.text += f'[[device]]\nname = "{letter}{self.number}"\nmode = "{mode}"\nbmin = 1000\nbmax = 3000\nports = [{places}]\n'
-        return self
-
-    def link(self, start, start_port, end, end_port):
-        n = self.number
-        self.text += f'[[link]]\nfrom = "{start}{n}"\nfrom_port = {start_port}\nto = "{end}{n}"\nto_port = {end_port}\ndelay = 500\n'
-        return self
-
-    def demand(self, frame, start, ends, length=40, update=1000000):
-        names = ", ".join(f'"{end}{self.number}"' for end in ends)
-        self.text += f'[[demand]]\nframe = {frame:#06x}\nfrom = "{start}{self.number}"\nto = [{names}]\nlength = {length}\nupdate = {update}\n'
-        return self
-
-    def traffic(self, start, end):
-        n = self.number
-        self.text += f'[[traffic]]\nfrom = "{start}{n}"\nto = "{end}{n}"\nclass = "orange"\nlength = 60\nevery = 1\ncount = 1\n'
-        return self
-
-    def pair(self, **keys):
-        return self.head(**keys).device("a").device("b").link("a", 1, "b", 1)
-
-    def line(self, mode="absolute"):
-        return self.head().device("a").device("s", 2, mode).device("b").link("a", 1, "s", 1).link("s", 2, "b", 1)
-
-    def save(self):
-        (DATA / f"p{self.number}.toml").write_text(self.text)
-        return self
-
-    def file(self, letter, data):
-        (DATA / f"{letter}{self.number}.ird").write_bytes(data)
-
-    def give(self, letter, entries):
-        """The device's file with these entries: frame, offset, ratio, phase, receiving port, sending ports."""
-        ports = self.ports[letter]
-        relative = self.modes[letter] == "relative"
-        spelled = blocks.frames([blocks.entry(*entry) for entry in entries], relative)
-        periods = blocks.periods(ports, 1, (0, RED, RED, 0, RED, RED))
-        self.file(letter, blocks.device_file(blocks.sync(3), blocks.delays(ports), spelled, periods))
-        return self
+STDOUT = DATA.parent / "stdout"
 
 
 def two_frames(number, second, rates=((1, 1), (1, 1)), update=1000000):
@@ -99,16 +41,6 @@ def own_frame(number, offset):
     case.give("b", [(0x100, 0, 1, 1, 1, 1), (0x101, 0, 1, 1, 1, 1)])
 
 
-def spelled(entries):
-    frames = blocks.frames([blocks.entry(*entry) for entry in entries])
-    return blocks.device_file(blocks.sync(3), blocks.delays(1), frames, blocks.periods(1, 1, (0, RED, RED, 0, RED, RED)))
-
-
-def broken(number, data):
-    case = Case(number).pair().demand(0x100, "a", "b").demand(0x101, "a", "b").save()
-    case.file("a", data)
-
-
 FIRST, SECOND = (0x100, 0, 1, 1, 0, 2), (0x101, 6720, 1, 1, 0, 2)
 
 
@@ -123,15 +55,57 @@ def checks():
     forwarded(8, None)
     own_frame(9, 12520)
     own_frame(10, 12519)
-    whole = spelled([FIRST, SECOND])
-    broken(11, whole[:52] + b"\0" + whole[53:])
-    broken(12, spelled([SECOND, FIRST]))
-    broken(13, whole[:100])
-    broken(14, whole[:6] + b"\1" + whole[7:])
-    broken(15, whole + b"\0")
     case = Case(16).head().device("a").device("b").demand(0x100, "a", "b").save()
     case.give("a", [FIRST]).give("b", [(0x100, 0, 1, 1, 1, 1)])
-    return [f"check p{number}.toml" for number in range(1, 17)] + [f"show a{number}.ird" for number in range(11, 16)]
+    verdicts = {
+        1: "ACCEPT",
+        2: "REJECT V6 a2 1 0x0100 0x0101",
+        3: "ACCEPT",
+        4: "REJECT V6 a4 1 0x0100 0x0101",
+        5: "ACCEPT",
+        6: "ACCEPT",
+        7: "REJECT V5 s7 0 0x0100 0x0000",
+        8: "REJECT V2 a8 0 0x0100 0x0000",
+        9: "ACCEPT",
+        10: "REJECT V6 s10 2 0x0100 0x0101",
+        16: "REJECT V2 a16 0 0x0100 0x0000",
+    }
+    return [(f"check p{number}.toml", 0 if text == "ACCEPT" else 8, f"{text}\n") for number, text in verdicts.items()]
+
+
+def spelled(entries):
+    frames = blocks.frames([blocks.entry(*entry) for entry in entries])
+    return blocks.device_file(blocks.sync(3), blocks.delays(1), frames, blocks.periods(1, 1, (0, RED, RED, 0, RED, RED)))
+
+
+def changed(data, at, byte):
+    return data[:at] + bytes([byte]) + data[at + 1 :]
+
+
+def malformed():
+    """Files of 272 bytes that are wrong: PDIRData begins at 56, the delays at 68, and the second FrameID at 150."""
+    whole = spelled([FIRST, SECOND])
+    faults = [
+        (changed(whole, 52, 0), "52 BadValue"),
+        (spelled([SECOND, FIRST]), "150 BadValue"),
+        (whole[:100], "100 Short"),
+        (changed(whole, 6, 1), "6 BadPad"),
+        (whole + b"\0", "272 Trailing"),
+        (b"", "0 Short"),
+        (whole[:271], "271 Short"),
+        (changed(whole, 0, 9), "0 BadType"),
+        (changed(whole, 4, 2), "4 BadVersion"),
+        (changed(whole, 3, 1), "2 BadLength"),
+        (changed(whole, 69, 7), "68 BadType"),
+        (changed(whole, 70, 1), "58 BadLength"),
+    ]
+    runs = []
+    for number, (data, fault) in enumerate(faults, 140):
+        case = Case(number).pair().demand(0x100, "a", "b").demand(0x101, "a", "b").save()
+        case.file("a", data)
+        line = f"malformed a{number}.ird {fault}\n"
+        runs += [(f"check p{number}.toml", 7, line), (f"show a{number}.ird", 7, line)]
+    return runs
 
 
 def plans():
@@ -165,33 +139,127 @@ def plans():
     for frame in range(2):
         case.demand(0x100 + frame, "a", "b", update=4000000)
     case.save()
-    planned = [20, 21, 25, 26, 27, 28, 29, 30, 33]
-    lines = []
-    for number in range(20, 34):
-        lines.append(f"plan p{number}.toml")
-        if number in planned:
-            lines.append(f"check p{number}.toml")
-    return lines + ["show a20.ird", "show s27.ird"]
+    runs = []
+    for number, (status, *lines) in PLANS.items():
+        runs.append((f"plan p{number}.toml", status, "".join(f"{line}\n" for line in lines)))
+        if status == 0:
+            runs.append((f"check p{number}.toml", 0, "ACCEPT\n"))
+    return runs
+
+
+PLANS = {
+    20: (0, "0x0100 1 1 8520", "red 6720"),
+    21: (0, "0x0100 1 1 120520", "red 118720"),
+    22: (5, "plant P13 0"),
+    23: (9, "overrun 0x0101"),
+    24: (6, "unreachable 0x0100 b24"),
+    25: (0, "0x0100 1 1 14320", "red 12520"),
+    26: (0, "0x0100 1 1 14320", "0x0101 1 1 21040", "red 19240"),
+    27: (0, "0x0100 1 1 12320", "0x0101 1 1 21040", "red 21240"),
+    28: (0, "0x0100 1 1 16120", "0x0101 1 1 26840", "red 27040"),
+    29: (0, "0x0100 2 1 8520", "red 6720"),
+    30: (0, "0x0100 2 1 8520", "0x0101 2 2 8520", "0x0102 2 1 15240", "red 13440"),
+    31: (9, "overrun 0x0102"),
+    32: (6, "no path 0"),
+    33: (0, "0x0100 4 1 8520", "0x0101 4 2 8520", "red 6720"),
+}
+
+A20 = """sync 1000 32 32 6
+global 3000 1
+port 1 100 200
+mode absolute
+frame 0x0100 0 40 1 1 0 0x02
+red 0x0100 0x06ff
+period 1 0 0 6720 6720 0 0 0
+phases 1 0/0 0/0 0/0 0/0 0/0 0/0 0/0 0/0 0/0 0/0 0/0 0/0 0/0 0/0 0/0 0/0
+"""
+
+S27 = """sync 1000 32 32 6
+global 3000 2
+port 1 100 200
+port 2 100 200
+mode relative
+frame 0x0100 0 40 1 1 1 0x04
+frame 0x0101 0 40 1 1 1 0x04
+red 0x0100 0x06ff
+period 1 0 0 0 0 0 18240 18240
+period 2 0 0 21240 21240 0 0 0
+phases 1 0/0 0/0 0/0 0/0 0/0 0/0 0/0 0/0 0/0 0/0 0/0 0/0 0/0 0/0 0/0 0/0
+phases 2 0/0 0/0 0/0 0/0 0/0 0/0 0/0 0/0 0/0 0/0 0/0 0/0 0/0 0/0 0/0 0/0
+"""
+
+
+def shown():
+    """Files that were planned."""
+    return [("show a20.ird", 0, A20), ("show s27.ird", 0, S27)]
 
 
 def clocks():
     case = Case(40).pair(clocks='"ptcp"').demand(0x100, "a", "b")
     case.sync(send=1, timeout=3, drift=0, stamp=0, loss=0).save()
     Case(41).head().device("a").device("b").demand(0x100, "a", "b").save()
-    return ["sync p40.toml 5 1", "sync p41.toml 5 1", "sync p40.toml 05 1", "sync p40.toml 10001 1"]
+    return [("sync p40.toml 5 1", 0, "b40 1 500 500 1 1 0\n"), ("sync p41.toml 5 1", 6, "no clock b41\n")]
 
 
-def others():
+def unread():
+    """Files that are no plants, that are too long, or that can't be had."""
     (DATA / "other.toml").write_text("[[\n")
-    return ["", "help", "check", "check none.toml", "plan none.toml", "check other.toml", "plan other.toml", "show none.ird", "check --help"]
+    (DATA / "bare.toml").write_text("factor = 0\n")
+    # line feeds, as many as a device file may have bytes, and one more; they are a plant that lacks all keys
+    Case(42).pair().demand(0x100, "a", "b").save().file("a", b"\n" * 131073)
+    Case(43).file("a", b"\n" * 131072)
+    name = "a" * 300
+    runs = [
+        ("show p1.toml", 7, "malformed p1.toml 0 BadType\n"),
+        ("check bare.toml", 5, "plant P1 0\n"),
+        ("check a42.ird", 5, "plant P1 0\n"),
+        ("show a42.ird", 4, "too long a42.ird\n"),
+        ("check p42.toml", 4, "too long a42.ird\n"),
+        ("show a43.ird", 7, "malformed a43.ird 0 BadType\n"),
+        ("show none.ird", 3, "absent none.ird\n"),
+        # a path through a file, a folder, and a name that is too long
+        ("show p1.toml/x", 2, "shelf fault p1.toml/x\n"),
+        ("show .", 2, "shelf fault .\n"),
+        (f"show {name}", 2, f"shelf fault {name}\n"),
+    ]
+    for command, more in (("check", ""), ("plan", ""), ("sync", " 1 1")):
+        runs.append((f"{command} none.toml{more}", 3, "absent none.toml\n"))
+        runs.append((f"{command} other.toml{more}", 5, "plant not toml\n"))
+        runs.append((f"{command} .{more}", 2, "shelf fault .\n"))
+    return runs
+
+
+def stored():
+    """Plans over what is there. A file is written beside its name and then renamed, so that a folder of that name stands."""
+    Case(44).line().demand(0x100, "a", "b").save()
+    (DATA / "s44.ird").mkdir()
+    (DATA / "s44.ird/inside.txt").write_text("A file of a device can't take the place of this folder.\n")
+    Case(45).pair().demand(0x100, "a", "b").save()
+    (DATA / "a45.ird.0.new").write_text("old")
+    return [
+        # the blocks of this plant, which were refused above, are stored over
+        ("plan p7.toml", 0, "0x0100 1 1 14320\nred 12520\n"),
+        ("check p7.toml", 0, "ACCEPT\n"),
+        # the files of the devices before the folder's are stored, and nothing is left beside it
+        ("plan p44.toml", 2, "shelf fault s44.ird\n"),
+        ("show a44.ird", 0, A20),
+        ("show b44.ird", 3, "absent b44.ird\n"),
+        ("show s44.ird.0.new", 3, "absent s44.ird.0.new\n"),
+        ("check p44.toml", 2, "shelf fault s44.ird\n"),
+        # a name beside that is taken
+        ("plan p45.toml", 0, "0x0100 1 1 8520\nred 6720\n"),
+        ("check p45.toml", 0, "ACCEPT\n"),
+        ("show a45.ird.0.new", 7, "malformed a45.ird.0.new 3 Short\n"),
+        ("show a45.ird.1.new", 3, "absent a45.ird.1.new\n"),
+    ]
 
 
 def main():
-    DATA.mkdir(parents=True, exist_ok=True)
-    for old in DATA.iterdir():
-        old.unlink()
-    lines = checks() + plans() + clocks() + others()
-    (DATA / "lines.txt").write_text("".join(f"{line}\n" for line in lines))
+    shutil.rmtree(DATA, ignore_errors=True)
+    DATA.mkdir(parents=True)
+    runs = checks() + malformed() + rules() + plans() + shown() + walks() + clocks() + unread() + stored() + words()
+    (DATA / "lines.txt").write_text("".join(f"{line}\n" for line, _, _ in runs))
+    STDOUT.write_text("".join(f"$ irt {line}\n{text}status {status}\n" for line, status, text in runs))
 
 
 if __name__ == "__main__":
