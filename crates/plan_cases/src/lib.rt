@@ -1,11 +1,7 @@
-//! Sample plans for tests, and tables of what the crates of plants' walks and plans answer on them.
+//! Sample plans, for the tests of crates that stand on plans.
 #![tactic(auto)]
 
 pub mod fault;
 pub mod plans;
-#[cfg(test)]
-mod route_tests;
 pub mod samples;
-#[cfg(test)]
-mod tests;
 mod text;

@@ -4,14 +4,14 @@ use crate::samples::{Asked, Sample, Wire};
 use irt_base::memory::NoMemory;
 use std::alloc::Global;
 
+const HEAD: &str =
+    "factor = 32\nwindow = 1000\nred_max = 250000\norange = 0\nclocks = \"world\"\n";
+
 const PORTS: &str = "[[100,200],[100,200],[100,200],[100,200],[100,200],[100,200],[100,200]]";
 
 /// The text of a sample's plant file.
 pub fn plant_text(alloc: Global, sample: &Sample<'_>) -> Result<String, NoMemory> {
-    let clocks = sample.clocks;
-    let mut text = format!(in alloc;
-        "factor = 32\nwindow = 1000\nred_max = 250000\norange = 0\nclocks = \"{clocks}\"\n[sync]\nsend = 4\nstamp = 8\ndrift = 5\n"
-    )?;
+    let mut text = String::from_str(alloc, HEAD)?;
     for (number, mode) in sample.modes.iter().enumerate() {
         text.push_str(device_text(alloc, number, mode)?.as_str())?;
     }
@@ -20,9 +20,6 @@ pub fn plant_text(alloc: Global, sample: &Sample<'_>) -> Result<String, NoMemory
     }
     for asked in sample.asked {
         text.push_str(demand_text(alloc, *asked)?.as_str())?;
-    }
-    for (from, to) in sample.parcels {
-        text.push_str(traffic_text(alloc, *from, *to)?.as_str())?;
     }
     Ok(text)
 }
@@ -50,13 +47,6 @@ fn demand_text(alloc: Global, asked: Asked<'_>) -> Result<String, NoMemory> {
     }
     let text = format!(in alloc;
         "[[demand]]\nframe = {frame}\nfrom = \"d{from}\"\nto = [{to}]\nlength = 40\nupdate = 4000000\n"
-    )?;
-    Ok(text)
-}
-
-fn traffic_text(alloc: Global, from: u8, to: u8) -> Result<String, NoMemory> {
-    let text = format!(in alloc;
-        "[[traffic]]\nfrom = \"d{from}\"\nto = \"d{to}\"\nclass = \"green\"\nlength = 60\nevery = 1\ncount = 1\n"
     )?;
     Ok(text)
 }

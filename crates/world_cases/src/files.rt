@@ -85,7 +85,7 @@ const REFUSED: [(&str, &str, (u32, u32)); 50] = [
 #[test]
 fn first_wrong_places(rt: HostRuntime) -> Result<(), Fail> {
     let alloc = rt.alloc();
-    let (plant, bundles) = plan_of(alloc, &RING, &[])?;
+    let (plant, bundles) = plan_of(alloc, &RING)?;
     for (number, (first, second, (line, place))) in REFUSED.iter().enumerate() {
         let mut text = String::from_str(alloc, first)?;
         text.push_str(second)?;
@@ -102,7 +102,7 @@ fn first_wrong_places(rt: HostRuntime) -> Result<(), Fail> {
 #[test]
 fn rows_in_range(rt: HostRuntime) -> Result<(), Fail> {
     let alloc = rt.alloc();
-    let (plant, bundles) = plan_of(alloc, &RING, &[])?;
+    let (plant, bundles) = plan_of(alloc, &RING)?;
     let text = "E -1000000 1000000 -1 1 10 B 1000 3000 C 0 1 2 3 4\nE 0 0 0 0 0 B 3000 1000 C 4\n";
     let world = read_world(alloc, text.as_bytes(), &plant, bundles.as_slice(), 2)?;
     assert_eq!(rt; world.rows.len(), 2);

@@ -9,11 +9,9 @@ use std::test::Fail;
 
 /// d1 sends on two frames of d0, by a port without a link.
 const TWO: Sample<'static> = Sample {
-    clocks: "world",
     modes: &["absolute", "relative"],
     wires: &[(0, 1, 1, 1)],
     asked: &[(0x0100, 0, &[1]), (0x0101, 0, &[1])],
-    parcels: &[],
     rows: &[
         (0, 0x0100, 0, 0, 0b10),
         (0, 0x0101, 6720, 0, 0b10),
@@ -32,7 +30,7 @@ const ROWS: [([i64; 2], [u32; 2]); 3] = [
 #[test]
 fn rows_of_a_seed(rt: HostRuntime) -> Result<(), Fail> {
     let alloc = rt.alloc();
-    let (plant, bundles) = plan_of(alloc, &TWO, &[])?;
+    let (plant, bundles) = plan_of(alloc, &TWO)?;
     let world = seeded(alloc, 7, &plant, bundles.as_slice(), 3)?;
     assert_eq!(rt; world.rows.len(), 3);
     for (number, (errors, delays)) in ROWS.iter().enumerate() {
