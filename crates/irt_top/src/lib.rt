@@ -5,12 +5,6 @@ mod check;
 mod files;
 mod line;
 mod plan;
-#[cfg(test)]
-mod plan_tests;
 mod show;
 mod sync;
-#[cfg(test)]
-mod sync_tests;
-#[cfg(test)]
-mod tests;
 pub mod top;

@@ -9,5 +9,3 @@ pub mod asked;
 mod grammar;
 pub mod law;
 pub mod reading;
-#[cfg(test)]
-mod tests;

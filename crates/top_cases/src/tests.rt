@@ -1,0 +1,76 @@
+//! A text that breaks off, and commands by their words.
+
+use irt_io::mem_shelf::MemShelf;
+use irt_io::mem_sink::MemSink;
+use irt_top::top::irt_calm;
+use irt_words::asked::Asked;
+use irt_words::reading::read_words;
+use std::alloc::{AllocError, Global};
+use std::test::Fail;
+
+/// The words of one text, parted by blanks.
+fn words(alloc: Global, text: &str) -> Result<Vec<String>, AllocError> {
+    let mut words = Vec::new(alloc);
+    for word in text.split(' ') {
+        words.push(String::from_str(alloc, word)?)?;
+    }
+    Ok(words)
+}
+
+#[test]
+fn faults_of_the_sink(rt: HostRuntime) -> Result<(), Fail> {
+    let alloc = rt.alloc();
+    let words = words(alloc, "show a")?;
+    for call in 0..9u32 {
+        let mut shelf = MemShelf::new(alloc, &[])?;
+        let mut sink = MemSink::new(alloc, 1, &[call])?;
+        let status = irt_calm(&rt, alloc, words.as_slice(), &mut shelf, &mut sink);
+        assert_eq!(rt; status.0, 12);
+        assert_eq!(rt; sink.bytes().len(), call as usize);
+    }
+    Ok(())
+}
+
+#[test]
+fn words_of_later_commands(rt: HostRuntime) -> Result<(), Fail> {
+    let alloc = rt.alloc();
+    let world = Asked::RunWorld {
+        plant: "p",
+        cycles: 12,
+        world: "w",
+    };
+    for (text, wanted) in [
+        ("run p 12 --world w", world),
+        ("run --world w p 12", world),
+        (
+            "run p 10000 18446744073709551615",
+            Asked::Run {
+                plant: "p",
+                cycles: 10000,
+                seed: u64::MAX,
+            },
+        ),
+        (
+            "gen 7 64 512 n",
+            Asked::Gen {
+                seed: 7,
+                devices: 64,
+                frames: 512,
+                name: "n",
+            },
+        ),
+        (
+            "free p 1 0",
+            Asked::Free {
+                plant: "p",
+                cycles: 1,
+                seed: 0,
+            },
+        ),
+    ] {
+        let words = words(alloc, text)?;
+        let asked = read_words(alloc, words.as_slice())?;
+        assert_eq!(rt; asked, Some(wanted), "{text}");
+    }
+    Ok(())
+}
