@@ -13,5 +13,3 @@ pub mod sink;
 pub mod stdout;
 pub mod sure_shelf;
 pub mod sure_sink;
-#[cfg(test)]
-mod tests;
