@@ -9,5 +9,3 @@ pub mod line;
 pub mod load;
 pub mod print;
 pub mod stop;
-#[cfg(test)]
-mod tests;
