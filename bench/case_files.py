@@ -11,6 +11,7 @@ import shutil
 import blocks
 from case_plants import DATA, RED, Case
 from case_rules import rules
+from case_shapes import shapes
 from case_walks import walks
 from case_words import words
 
@@ -257,7 +258,7 @@ def stored():
 def main():
     shutil.rmtree(DATA, ignore_errors=True)
     DATA.mkdir(parents=True)
-    runs = checks() + malformed() + rules() + plans() + shown() + walks() + clocks() + unread() + stored() + words()
+    runs = checks() + malformed() + rules() + plans() + shown() + walks() + clocks() + unread() + stored() + words() + shapes()
     (DATA / "lines.txt").write_text("".join(f"{line}\n" for line, _, _ in runs))
     STDOUT.write_text("".join(f"$ irt {line}\n{text}status {status}\n" for line, status, text in runs))
 

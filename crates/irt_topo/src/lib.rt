@@ -6,5 +6,3 @@ pub mod law;
 pub mod read;
 pub mod rules;
 pub mod stated;
-#[cfg(test)]
-mod tests;
