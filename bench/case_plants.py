@@ -30,6 +30,7 @@ class Case:
         self.number = number
         self.shared = number if shared is None else shared
         self.own = own
+        self.send = 32
         self.text = ""
         self.ports = {}
         self.modes = {}
@@ -43,7 +44,9 @@ class Case:
         self.text += "".join(f"{key} = {value}\n" for key, value in values.items())
         return self
 
-    def sync(self, **values):
+    def sync(self, send, **values):
+        self.send = send
+        values["send"] = send
         self.text += "[sync]\n" + "".join(f"{key} = {value}\n" for key, value in values.items())
         return self
 
@@ -91,7 +94,7 @@ class Case:
         mode = self.modes[letter] == "relative" if relative is None else relative
         periods = [port_periods(begins.get(port + 1)) for port in range(ports or own)]
         data = blocks.device_file(
-            blocks.sync(3, **(sync or {})),
+            blocks.sync(3, **{"send": self.send, **(sync or {})}),
             blocks.delays(**{"ports": own, **(delays or {})}),
             blocks.frames([blocks.entry(*entry) for entry in entries], mode),
             blocks.period_block(periods, *(reds or (blocks.FIRST_FRAME, blocks.LAST_FRAME))),
