@@ -9,6 +9,7 @@ Devices are named by a letter and the number of a case, so that all files lie in
 import shutil
 
 import blocks
+from case_blocks import changed, faults
 from case_plants import DATA, RED, Case
 from case_rules import rules
 from case_shapes import shapes
@@ -79,12 +80,8 @@ def spelled(entries):
     return blocks.device_file(blocks.sync(3), blocks.delays(1), frames, blocks.periods(1, 1, (0, RED, RED, 0, RED, RED)))
 
 
-def changed(data, at, byte):
-    return data[:at] + bytes([byte]) + data[at + 1 :]
-
-
 def malformed():
-    """Files of 272 bytes that are wrong: PDIRData begins at 56, the delays at 68, and the second FrameID at 150."""
+    """Files of 272 bytes that are wrong, where they are checked and where they are shown."""
     whole = spelled([FIRST, SECOND])
     faults = [
         (changed(whole, 52, 0), "52 BadValue"),
@@ -93,12 +90,6 @@ def malformed():
         (changed(whole, 6, 1), "6 BadPad"),
         (whole + b"\0", "272 Trailing"),
         (b"", "0 Short"),
-        (whole[:271], "271 Short"),
-        (changed(whole, 0, 9), "0 BadType"),
-        (changed(whole, 4, 2), "4 BadVersion"),
-        (changed(whole, 3, 1), "2 BadLength"),
-        (changed(whole, 69, 7), "68 BadType"),
-        (changed(whole, 70, 1), "58 BadLength"),
     ]
     runs = []
     for number, (data, fault) in enumerate(faults, 140):
@@ -258,7 +249,7 @@ def stored():
 def main():
     shutil.rmtree(DATA, ignore_errors=True)
     DATA.mkdir(parents=True)
-    runs = checks() + malformed() + rules() + plans() + shown() + walks() + clocks() + unread() + stored() + words() + shapes()
+    runs = checks() + malformed() + faults() + rules() + plans() + shown() + walks() + clocks() + unread() + stored() + words() + shapes()
     (DATA / "lines.txt").write_text("".join(f"{line}\n" for line, _, _ in runs))
     STDOUT.write_text("".join(f"$ irt {line}\n{text}status {status}\n" for line, status, text in runs))
 
