@@ -14,6 +14,3 @@ pub mod output;
 pub use extent::{Extent, Holder};
 pub use fault::{BlockFault, BlockKind};
 pub use header::{BlockId, open_block, read_header, write_header};
-
-#[cfg(test)]
-mod tests;

@@ -12,6 +12,3 @@ mod writing;
 
 pub use reading::read_bundle;
 pub use writing::write_bundle;
-
-#[cfg(test)]
-mod tests;

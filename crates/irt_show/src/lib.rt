@@ -3,7 +3,5 @@
 
 mod blocks;
 mod lines;
-#[cfg(test)]
-mod tests;
 
 pub use blocks::print_bundle;

@@ -10,6 +10,3 @@ mod sync;
 
 pub use global::{global_at, read_global, write_global};
 pub use sync::{read_sync, sync_at, write_sync};
-
-#[cfg(test)]
-mod tests;

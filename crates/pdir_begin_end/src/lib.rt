@@ -14,6 +14,3 @@ mod writing;
 
 pub use reading::{periods_at, read_periods};
 pub use writing::write_periods;
-
-#[cfg(test)]
-mod tests;

@@ -14,6 +14,3 @@ mod writing;
 
 pub use reading::{frames_at, read_frames};
 pub use writing::write_frames;
-
-#[cfg(test)]
-mod tests;
