@@ -8,7 +8,5 @@ pub mod frame;
 pub mod placed;
 pub mod planning;
 pub mod step;
-#[cfg(test)]
-mod tests;
 pub mod turns;
 pub mod ways;

@@ -5,5 +5,3 @@ pub mod build;
 pub mod names;
 pub mod print;
 pub mod tables;
-#[cfg(test)]
-mod tests;

@@ -1,5 +1,9 @@
-//! What the top call does with a sink that fails, and what words ask for that the program doesn't do yet.
+//! What the top call does with a sink that fails, words of later commands, and plans of generated plants.
 #![tactic(auto)]
 
 #[cfg(test)]
-mod tests;
+mod plans;
+#[cfg(test)]
+mod sink;
+#[cfg(test)]
+mod words;

@@ -1,34 +1,17 @@
-//! A text that breaks off, and commands by their words.
+//! Words of the commands that the program doesn't do yet.
 
-use irt_io::mem_shelf::MemShelf;
-use irt_io::mem_sink::MemSink;
-use irt_top::top::irt_calm;
 use irt_words::asked::Asked;
 use irt_words::reading::read_words;
 use std::alloc::{AllocError, Global};
 use std::test::Fail;
 
 /// The words of one text, parted by blanks.
-fn words(alloc: Global, text: &str) -> Result<Vec<String>, AllocError> {
+pub fn words(alloc: Global, text: &str) -> Result<Vec<String>, AllocError> {
     let mut words = Vec::new(alloc);
     for word in text.split(' ') {
         words.push(String::from_str(alloc, word)?)?;
     }
     Ok(words)
-}
-
-#[test]
-fn faults_of_the_sink(rt: HostRuntime) -> Result<(), Fail> {
-    let alloc = rt.alloc();
-    let words = words(alloc, "show a")?;
-    for call in 0..9u32 {
-        let mut shelf = MemShelf::new(alloc, &[])?;
-        let mut sink = MemSink::new(alloc, 1, &[call])?;
-        let status = irt_calm(&rt, alloc, words.as_slice(), &mut shelf, &mut sink);
-        assert_eq!(rt; status.0, 12);
-        assert_eq!(rt; sink.bytes().len(), call as usize);
-    }
-    Ok(())
 }
 
 #[test]
@@ -68,8 +51,8 @@ fn words_of_later_commands(rt: HostRuntime) -> Result<(), Fail> {
             },
         ),
     ] {
-        let words = words(alloc, text)?;
-        let asked = read_words(alloc, words.as_slice())?;
+        let texts = words(alloc, text)?;
+        let asked = read_words(alloc, texts.as_slice())?;
         assert_eq!(rt; asked, Some(wanted), "{text}");
     }
     Ok(())

@@ -4,10 +4,10 @@ ghost use Rattle.std.specs.Prelude.{◌≤◌};
 ghost use Rattle.irt_base.specs.Valid.{IsWithin};
 ghost use Rattle.irt_base.specs.declared.limits.TheConstants.{MAX_DEVICES, MAX_DEMANDS};
 
-use crate::planning::plan;
 use irt_base::blocks::Bundle;
 use irt_route::routing::routes;
 use plant_gen::gen_plant;
+use planner::planning::plan;
 use std::alloc::Global;
 use std::test::Fail;
 

@@ -1,8 +1,8 @@
 //! Plants read, printed and read back.
 
-use crate::print::print_plant;
 use irt_topo::read::read_plant;
 use plant_gen::gen_plant;
+use plant_print::print::print_plant;
 use std::alloc::Global;
 use std::test::Fail;
 
