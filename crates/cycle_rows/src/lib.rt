@@ -6,5 +6,3 @@
 
 pub mod law;
 pub mod rows;
-#[cfg(test)]
-mod tests;

@@ -3,7 +3,5 @@
 
 mod fields;
 mod lines;
-#[cfg(test)]
-mod tests;
 
 pub use lines::print_journal;

@@ -10,6 +10,3 @@ pub mod seal;
 
 pub use apps::IsoApp;
 pub use kinds::AppKind;
-
-#[cfg(test)]
-mod tests;

@@ -11,6 +11,3 @@ pub mod honest;
 pub mod line;
 
 pub use line::{LineDelay, LineFault};
-
-#[cfg(test)]
-mod tests;

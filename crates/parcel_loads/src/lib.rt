@@ -11,5 +11,3 @@ pub mod passing;
 pub mod room;
 pub mod rows;
 pub mod steps;
-#[cfg(test)]
-mod tests;

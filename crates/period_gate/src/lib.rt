@@ -14,6 +14,3 @@ pub mod sent_list;
 
 pub use gates::Gate;
 pub use queue::QUEUE_ROOM;
-
-#[cfg(test)]
-mod tests;

@@ -20,6 +20,3 @@ pub use read::read_msg;
 pub use relays::relay;
 pub use slave::Slave;
 pub use write::write_msg;
-
-#[cfg(test)]
-mod tests;

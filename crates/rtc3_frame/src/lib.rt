@@ -27,6 +27,3 @@ pub use frame::Rtc3;
 pub use frames::Frames;
 pub use read::read_rtc3;
 pub use write::write_rtc3;
-
-#[cfg(test)]
-mod tests;

@@ -9,5 +9,3 @@ pub mod laws;
 pub mod runs;
 pub mod slots;
 pub mod steps;
-#[cfg(test)]
-mod tests;

@@ -1,9 +1,11 @@
-use crate::master::Master;
-use crate::messages::{DelayReq, DelayRes, Msg, MsgFault, SyncMsg, TIME_END};
-use crate::read::read_msg;
-use crate::relays::relay;
-use crate::slave::{Slave, SyncEvent, SyncState};
-use crate::write::write_msg;
+//! PTCP messages, and what masters, relays and slaves make of them.
+
+use ptcp_core::master::Master;
+use ptcp_core::messages::{DelayReq, DelayRes, Msg, MsgFault, SyncMsg, TIME_END};
+use ptcp_core::read::read_msg;
+use ptcp_core::relays::relay;
+use ptcp_core::slave::{Slave, SyncEvent, SyncState};
+use ptcp_core::write::write_msg;
 
 const SYNC_MSG: SyncMsg = SyncMsg {
     number: 1,

@@ -1,4 +1,6 @@
-use crate::rows::{JournalRow, sort_rows};
+//! The order of rows.
+
+use cycle_rows::rows::{JournalRow, sort_rows};
 use irt_base::numbers::{DevId, FrameId, PortNo};
 use std::test::Fail;
 

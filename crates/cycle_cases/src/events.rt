@@ -1,4 +1,6 @@
-use crate::queue::Queue;
+//! Events in the order in which they are taken.
+
+use event_queue::queue::Queue;
 use cycle_events::events::{Event, What};
 use irt_base::numbers::{DevId, FrameId, PortNo};
 use std::test::Fail;

@@ -1,4 +1,6 @@
-use crate::line::{LineDelay, LineFault};
+//! Delays of a link, as its responses tell them.
+
+use line_delay::line::{LineDelay, LineFault};
 
 #[test]
 fn half_rounds_and_their_median(rt: HostRuntime) {

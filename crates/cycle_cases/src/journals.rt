@@ -1,4 +1,6 @@
-use crate::print_journal;
+//! Journals as text.
+
+use irt_trace::print_journal;
 use cycle_rows::rows::JournalRow;
 use irt_base::list::Items;
 use irt_base::memory::NoMemory;

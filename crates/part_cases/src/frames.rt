@@ -1,7 +1,9 @@
-use crate::fault::FrameFault;
-use crate::frames::Frames;
-use crate::read::read_rtc3;
-use crate::write::write_rtc3;
+//! Frames with real-time data, written and read.
+
+use rtc3_frame::fault::FrameFault;
+use rtc3_frame::frames::Frames;
+use rtc3_frame::read::read_rtc3;
+use rtc3_frame::write::write_rtc3;
 use irt_base::numbers::{DevId, FrameId};
 use std::test::Fail;
 

@@ -1,7 +1,9 @@
-use crate::flight::Flight;
-use crate::made::{made, makes};
-use crate::room::links_left;
-use crate::steps::step_at;
+//! Serials of parcels, their walks, and what links bring.
+
+use parcel_loads::flight::Flight;
+use parcel_loads::made::{made, makes};
+use parcel_loads::room::links_left;
+use parcel_loads::steps::step_at;
 use irt_base::numbers::{DevId, PortNo};
 use irt_base::plants::{Class, Traffic};
 use period_gate::parcels::{Parcel, Sent};

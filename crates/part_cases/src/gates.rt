@@ -1,5 +1,7 @@
-use crate::gates::Gate;
-use crate::parcels::{Offered, Parcel, Sent};
+//! What a gate sends of the parcels that are offered.
+
+use period_gate::gates::Gate;
+use period_gate::parcels::{Offered, Parcel, Sent};
 use irt_base::blocks::Period;
 use irt_base::plants::Class;
 use std::test::Fail;

@@ -1,6 +1,8 @@
-use crate::apps::IsoApp;
-use crate::kinds::AppKind;
-use crate::seal::seal;
+//! Turns of applications, and the seal of frames.
+
+use iso_app::apps::IsoApp;
+use iso_app::kinds::AppKind;
+use iso_app::seal::seal;
 use irt_base::numbers::DevId;
 use irt_base::plants::{App, AppName};
 

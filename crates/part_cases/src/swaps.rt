@@ -1,5 +1,7 @@
-use crate::runs::run_steps;
-use crate::steps::{Seen, Step};
+//! Runs of the exchange as a machine.
+
+use swap_core::runs::run_steps;
+use swap_core::steps::{Seen, Step};
 use std::alloc::Global;
 use std::process::Abort;
 use std::test::Fail;
@@ -117,7 +119,7 @@ fn a_publication_during_a_take_leaves_its_words(rt: HostRuntime) -> Result<(), F
 
 #[test]
 fn steps_one_by_one(rt: HostRuntime) -> Result<(), Fail> {
-    let mut core = crate::slots::Core::new(rt.alloc(), 1)?;
+    let mut core = swap_core::slots::Core::new(rt.alloc(), 1)?;
     assert_eq!(rt; core.published(), 0);
     assert_eq!(rt; core.step(Step::Publish), Seen::Published { number: 1 });
     assert_eq!(rt; core.published(), 1);
