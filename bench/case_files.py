@@ -249,7 +249,8 @@ def stored():
 def main():
     shutil.rmtree(DATA, ignore_errors=True)
     DATA.mkdir(parents=True)
-    runs = checks() + malformed() + faults() + rules() + plans() + shown() + walks() + clocks() + unread() + stored() + words() + shapes()
+    runs = checks() + malformed() + faults() + rules() + plans() + shown() + walks()
+    runs += clocks() + unread() + stored() + words() + shapes()
     (DATA / "lines.txt").write_text("".join(f"{line}\n" for line, _, _ in runs))
     STDOUT.write_text("".join(f"$ irt {line}\n{text}status {status}\n" for line, status, text in runs))
 
