@@ -1,7 +1,7 @@
 //! Events in the order in which they are taken.
 
-use event_queue::queue::Queue;
 use cycle_events::events::{Event, What};
+use event_queue::queue::Queue;
 use irt_base::numbers::{DevId, FrameId, PortNo};
 use std::test::Fail;
 

@@ -1,11 +1,11 @@
 //! Journals as text.
 
-use irt_trace::print_journal;
 use cycle_rows::rows::JournalRow;
 use irt_base::list::Items;
 use irt_base::memory::NoMemory;
 use irt_base::numbers::{DevId, FrameId, PortNo};
 use irt_base::plants::{Clocks, Device, Mode, Plant, SyncPlan};
+use irt_trace::print_journal;
 use std::alloc::Global;
 use std::test::Fail;
 

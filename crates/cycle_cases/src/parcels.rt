@@ -1,11 +1,11 @@
 //! Serials of parcels, their walks, and what links bring.
 
+use irt_base::numbers::{DevId, PortNo};
+use irt_base::plants::{Class, Traffic};
 use parcel_loads::flight::Flight;
 use parcel_loads::made::{made, makes};
 use parcel_loads::room::links_left;
 use parcel_loads::steps::step_at;
-use irt_base::numbers::{DevId, PortNo};
-use irt_base::plants::{Class, Traffic};
 use period_gate::parcels::{Parcel, Sent};
 use std::test::Fail;
 

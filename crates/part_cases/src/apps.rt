@@ -1,10 +1,10 @@
 //! Turns of applications, and the seal of frames.
 
+use irt_base::numbers::DevId;
+use irt_base::plants::{App, AppName};
 use iso_app::apps::IsoApp;
 use iso_app::kinds::AppKind;
 use iso_app::seal::seal;
-use irt_base::numbers::DevId;
-use irt_base::plants::{App, AppName};
 
 /// The output words of a turn, of which there are three, each holding 9 before it.
 fn turned<A: IsoApp>(app: &mut A, input: &[u64]) -> [u64; 3] {

@@ -1,10 +1,10 @@
 //! Frames with real-time data, written and read.
 
+use irt_base::numbers::{DevId, FrameId};
 use rtc3_frame::fault::FrameFault;
 use rtc3_frame::frames::Frames;
 use rtc3_frame::read::read_rtc3;
 use rtc3_frame::write::write_rtc3;
-use irt_base::numbers::{DevId, FrameId};
 use std::test::Fail;
 
 /// The frame of device 0 in cycle 3 at factor 32: 39 zero bytes and a good IOPS.

@@ -1,9 +1,9 @@
 //! What a gate sends of the parcels that are offered.
 
-use period_gate::gates::Gate;
-use period_gate::parcels::{Offered, Parcel, Sent};
 use irt_base::blocks::Period;
 use irt_base::plants::Class;
+use period_gate::gates::Gate;
+use period_gate::parcels::{Offered, Parcel, Sent};
 use std::test::Fail;
 
 const PERIOD: Period = Period {

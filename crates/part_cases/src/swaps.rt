@@ -1,10 +1,10 @@
 //! Runs of the exchange as a machine.
 
-use swap_core::runs::run_steps;
-use swap_core::steps::{Seen, Step};
 use std::alloc::Global;
 use std::process::Abort;
 use std::test::Fail;
+use swap_core::runs::run_steps;
+use swap_core::steps::{Seen, Step};
 
 // Makes the steps, and compares what they see.
 fn sees(

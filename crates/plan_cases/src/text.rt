@@ -4,8 +4,7 @@ use crate::samples::{Asked, Sample, Wire};
 use irt_base::memory::NoMemory;
 use std::alloc::Global;
 
-const HEAD: &str =
-    "factor = 32\nwindow = 1000\nred_max = 250000\norange = 0\nclocks = \"world\"\n";
+const HEAD: &str = "factor = 32\nwindow = 1000\nred_max = 250000\norange = 0\nclocks = \"world\"\n";
 
 const PORTS: &str = "[[100,200],[100,200],[100,200],[100,200],[100,200],[100,200],[100,200]]";
 

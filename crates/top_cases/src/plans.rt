@@ -6,8 +6,8 @@ ghost use Rattle.irt_base.specs.declared.limits.TheConstants.{MAX_DEVICES, MAX_D
 
 use irt_base::blocks::Bundle;
 use irt_route::routing::routes;
-use plant_gen::gen_plant;
 use planner::planning::plan;
+use plant_gen::gen_plant;
 use std::alloc::Global;
 use std::test::Fail;
 
