@@ -200,10 +200,11 @@ impl Switch {
         !self.bundle.frames.relative && ports_of(entry.tx) != 0 && latest < local
     }
 
-    /// How many parcels of a class wait at a port.
+    /// How many parcels of a class wait at a port: at most `QUEUE_ROOM`.
     pub fn waiting(&self, port: PortNo, class: Class) -> usize
         requires { HasPort self.now.bundle port.0 }
-        ensures { result ≡ length (queue_of class (gate_of self.now port.0)) }
+        ensures count { result ≡ length (queue_of class (gate_of self.now port.0)) }
+        ensures room { result ≤ QUEUE_ROOM }
     {
         self.gates[usize::from(port.0) - 1].waiting(class)
     }

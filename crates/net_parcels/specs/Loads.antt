@@ -22,9 +22,9 @@ HoldGates plant switches gates =
     HaveSameQueues (gate_of s at.1.0) (gate_at gates at)
 
 -- The parcels at the ports and on the way are those of the rules.
-pub record HoldLoads (plant : Plant) (switches : List SwitchState) (flight : List Handed) (loads : Loads) : Type 0 where
+pub record HoldLoads (plant : Plant) (switches : List SwitchState) (handed : List Handed) (loads : Loads) : Type 0 where
   pub gates : HoldGates plant switches loads.gates
-  pub flight : flight ≡ loads.flight
+  pub flight : handed ≡ loads.flight
 
 -- of each traffic entry the steps of its walk
 pub record AreStepsOf (plant : Plant) (walks : List (List PortNo)) (steps : List (List Step)) : Type 0 where

@@ -1,8 +1,11 @@
 -- What the parcels of a cycle make of the journal.
-use Rattle.std.specs.Prelude.{◌≡◌, ℕ, ◌+◌, ◌≤◌, List, ◌++◌, length, Some, slice_get}
+use Rattle.std.specs.Prelude.{◌≡◌, ℕ, ◌+◌, ◌*◌, ◌≤◌, List, ◌++◌, length, Some, slice_get, sum_by}
 use Rattle.irt_base.specs.declared.blocks.Bundle.{Bundle}
 use Rattle.irt_base.specs.declared.numbers.PortNo.{PortNo}
 use Rattle.irt_base.specs.declared.plants.Plant.{Plant}
+use Rattle.irt_base.specs.declared.plants.Traffic.{Traffic}
+use Rattle.period_gate.specs.declared.queue.TheConstants.{QUEUE_ROOM}
+use Rattle.net_parcels.specs.Outlets.{End, AreEndsOf}
 use Rattle.cycle_rows.specs.declared.rows.JournalRow.{JournalRow}
 use Rattle.irt_base.specs.Periods.{period_at}
 use Rattle.irt_base.specs.declared.blocks.Period.{Period}
@@ -12,7 +15,9 @@ use Rattle.irt_switch.specs.State.{SwitchState, HasPort, gate_of}
 use Rattle.irt_world.specs.Rows.{world_row}
 use Rattle.irt_world.specs.declared.rows.Row.{Row}
 use Rattle.net_begin.specs.Clocks.{keeps_step}
-use Rattle.net_parcels.specs.Loads.{HoldLoads}
+use Rattle.irt_base.specs.Wiring.{peer_of}
+use Rattle.irt_route.specs.Routes.{AreTrafficWalks}
+use Rattle.net_parcels.specs.Loads.{HoldLoads, AreStepsOf}
 use Rattle.parcel_rules.specs.Cycle.{after_sendings}
 use Rattle.parcel_rules.specs.Loads.{Loads, offered}
 use Rattle.parcel_rules.specs.Rows.{rows_after}
@@ -20,10 +25,22 @@ use Rattle.parcel_rules.specs.Steps.{Step}
 use Rattle.parcel_rules.specs.declared.handed.Handed.{Handed}
 use Rattle.run_journal.specs.Written.{Written}
 
--- the walks' steps by traffic entry, and what is on the way over links
+-- the ports, the walks' steps by traffic entry, what is on the way over links, and how many parcels may be handed over in
+-- a cycle
 pub record ParcelsState : Type 0 where
+  pub ends : List End
   pub steps : List (List Step)
   pub flight : List Handed
+  pub room : ℕ
+
+-- the parcels that all entries together make in a cycle
+abbrev pub made_at_most : Plant → ℕ
+made_at_most plant = sum_by (λ (t : Traffic). t.count) plant.traffic
+
+-- It was made for this plant: it has the plant's ports, and room for what they bring and for what is made in a cycle.
+pub record IsMadeFor (plant : Plant) (p : ParcelsState) : Type 0 where
+  pub ends : AreEndsOf plant p.ends
+  pub room : length p.ends * (2 * QUEUE_ROOM) + made_at_most plant ≤ p.room
 
 -- Each gate of a device has the Tx period and the limit of cycle k.
 pub record HasOpened (plant : Plant) (row : Row) (k device : ℕ) (s : SwitchState) : Type 0 where
@@ -44,6 +61,11 @@ parcel_part plant bundles walks row k loads =
 abbrev pub loads_after : Plant → List Bundle → List (List PortNo) → Row → ℕ → Loads → Loads
 loads_after plant bundles walks row k loads =
     after_sendings plant bundles (world_row plant bundles row) k (offered plant walks k loads).gates
+
+-- the walks that the steps are of
+abbrev pub HaveWalks : Plant → List (List Step) → Type 0
+HaveWalks plant steps =
+    (walks : List (List PortNo)) × AreTrafficWalks (peer_of plant) plant.traffic walks × AreStepsOf plant walks steps
 
 -- The journal has grown by the parcels' rows of cycle k, and the parcels are where the rules put them.
 pub record GrowsByParcels (plant : Plant) (bundles : List Bundle) (walks : List (List PortNo)) (row : Row) (k : ℕ) (loads : Loads)

@@ -4,4 +4,11 @@
 //! What a port sends in a cycle rests on its own gate alone, so the ports are taken one after the other, in the order of the journal.
 #![tactic(auto)]
 
+pub mod bringing;
+pub mod handing;
+pub mod notes;
+pub mod outbox;
+pub mod outlets;
 pub mod parcels;
+pub mod rows;
+pub mod sending;

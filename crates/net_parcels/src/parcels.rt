@@ -1,35 +1,116 @@
 //! The parcels of a network.
 
-/// The parcels of a network that are on the way, and the walks that they take. A clause sees the walks' steps and the
-/// parcels.
-///
-/// Contract (bodies are not written yet):
-///
-///     impl Model for Parcels { ghost Value = { ParcelsState }; ... }
-///
-///     impl Parcels {
-///         /// Nothing on the way. It takes all the memory that it will use.
-///         /// # Errors
-///         /// `NoMemory` where memory runs out.
-///         pub fn new(alloc: Global, site: &Site, routes: &Routes) -> Result<Parcels, NoMemory>
-///             requires routes { IsRoutesOf site.now.plant routes.now }
-///             ensures steps { IfOk result (λ p. AreStepsOf site.now.plant routes.now.walks p.steps) }
-///             ensures flight { IfOk result (λ p. p.flight ≡ []) }
-///
-///         /// Plays the parcels of cycle `k`, which the switches have begun. It takes no memory.
-///         pub fn cycle(&mut self, site: &Site, row: &Row, k: u32, switches: &mut [Switch], journal: &mut Journal)
-///             requires plan { IsPlayedAt site.now (bundles_of switches.old) row.now }
-///             requires run { k < MAX_CYCLES }
-///             requires opened { AllHaveOpened site.now.plant row.now k switches.old }
-///             requires walks { (walks) → AreStepsOf site.now.plant walks self.old.steps , AreTrafficWalks ... : as a
-///                 fact that some walks have }
-///             requires room { (loads : Loads) → HoldLoads site.now.plant switches.old self.old.flight loads →
-///                 length (parcel_part site.now.plant (bundles_of switches.old) walks row.now k loads) ≤ journal.old.room }
-///             ensures steps { self.new.steps ≡ self.old.steps }
-///             ensures parcels { (walks) (loads : Loads) → AreStepsOf site.now.plant walks self.old.steps →
-///                 HoldLoads site.now.plant switches.old self.old.flight loads →
-///                 GrowsByParcels site.now.plant (bundles_of switches.old) walks row.now k loads journal.old journal.new
-///                 switches.new self.new.flight }
-///             ensures switches { each switch keeps its bundle, cycle, in_step and left; as many switches as before }
-///     }
-pub struct Parcels;
+ghost use Rattle.std.specs.Prelude.{◌≡◌, ◌+◌, ◌<◌, ◌≤◌, [], List, length, IfOk};
+ghost use Rattle.irt_base.specs.declared.limits.TheConstants.{MAX_CYCLES};
+ghost use Rattle.irt_base.specs.declared.numbers.PortNo.{PortNo};
+ghost use Rattle.irt_route.specs.Routes.{IsRoutesOf};
+ghost use Rattle.net_site.specs.Site.{IsPlayedAt, bundles_of};
+ghost use Rattle.parcel_rules.specs.Loads.{Loads};
+ghost use Rattle.parcel_rules.specs.Room.{most_rows};
+ghost use Rattle.net_parcels.specs.Gates.{all_but_gates};
+ghost use Rattle.net_parcels.specs.Loads.{HoldLoads, AreStepsOf};
+ghost use Rattle.net_parcels.specs.Parcels.{IsMadeFor, HaveWalks, AllHaveOpened, GrowsByParcels, parcel_part};
+
+use crate::bringing::bring_all;
+use crate::handing::{hand_over_flight, hand_over_made};
+use crate::notes::Notes;
+use crate::outlets::Outlet;
+use crate::rows::append_rows;
+use crate::sending::send_all;
+use irt_base::list::Items;
+use irt_base::memory::NoMemory;
+use irt_base::numbers::{DevId, PortNo};
+use irt_base::plants::Plant;
+use irt_route::tables::Routes;
+use irt_switch::Switch;
+use irt_world::rows::Row;
+use net_site::site::Site;
+use parcel_loads::flight::Flight;
+use run_journal::journal::Journal;
+use std::alloc::Global;
+use std::marker::Model;
+
+/// The parcels of a network that are on the way, and the walks that they take. A clause sees the ports of the plant, the
+/// steps of the walks, the parcels, and how many may be handed over in a cycle.
+#[derive(Drop, Debug)]
+pub struct Parcels {
+    outlets: Vec<Outlet>,
+    steps: Vec<Items<(DevId, PortNo)>>,
+    flight: Flight,
+    notes: Notes,
+}
+
+impl Model for Parcels {
+    ghost use Rattle.net_parcels.specs.Invariant.{HasRoom};
+    ghost use Rattle.net_parcels.specs.Outlets.{ends_of};
+    ghost use Rattle.net_parcels.specs.Parcels.{ParcelsState};
+
+    ghost Value = { ParcelsState };
+
+    ghost view = { λ p. record {
+      ends = ends_of p.outlets.items;
+      steps = p.steps.items;
+      flight = p.flight.handed;
+      room = p.notes.room;
+    } };
+
+    ghost invariant = { λ p. HasRoom p.outlets.items p.flight };
+}
+
+impl Parcels {
+    /// Nothing on the way. It takes all the memory that it will use.
+    ///
+    /// # Errors
+    /// `NoMemory` where memory runs out.
+    pub fn new(alloc: Global, site: &Site, routes: &Routes) -> Result<Parcels, NoMemory>
+        requires routes { IsRoutesOf site.now.plant routes.now }
+        ensures plant { IfOk result (λ p. IsMadeFor site.now.plant p) }
+        ensures steps { IfOk result (λ p. AreStepsOf site.now.plant routes.now.walks p.steps) }
+        ensures flight { IfOk result (λ p. p.flight ≡ []) }
+    {
+        Err(NoMemory)
+    }
+
+    /// The most rows of a journal that the parcels which are made in a cycle may ever get.
+    pub fn most_rows(&self, plant: &Plant) -> u64
+        ensures { (walks : List (List PortNo)) → AreStepsOf plant.now walks self.now.steps →
+            result ≡ most_rows plant.now walks }
+    {
+        0
+    }
+
+    /// Plays the parcels of cycle `k`, which the switches have begun. It takes no memory.
+    pub fn cycle(
+        &mut self,
+        site: &Site,
+        row: &Row,
+        k: u32,
+        switches: &mut [Switch],
+        journal: &mut Journal,
+    )
+        requires plan { IsPlayedAt site.now (bundles_of switches.old) row.now }
+        requires run { k < MAX_CYCLES }
+        requires opened { AllHaveOpened site.now.plant row.now k switches.old }
+        requires plant { IsMadeFor site.now.plant self.old }
+        requires walks { HaveWalks site.now.plant self.old.steps }
+        requires room { (walks : List (List PortNo)) (loads : Loads) → AreStepsOf site.now.plant walks self.old.steps →
+            HoldLoads site.now.plant switches.old self.old.flight loads →
+            length (parcel_part site.now.plant (bundles_of switches.old) walks row.now k loads) ≤ journal.old.room }
+        ensures kept { self.new ≡ record self.old { flight = self.new.flight } }
+        ensures parcels { (walks : List (List PortNo)) (loads : Loads) → AreStepsOf site.now.plant walks self.old.steps →
+            HoldLoads site.now.plant switches.old self.old.flight loads →
+            GrowsByParcels site.now.plant (bundles_of switches.old) walks row.now k loads journal.old journal.new
+            switches.new self.new.flight }
+        ensures switches { all_but_gates switches.new ≡ all_but_gates switches.old }
+    {
+        self.notes.clear();
+        let plant = site.plant();
+        let steps = self.steps.as_slice();
+        hand_over_flight(plant, steps, k, &self.flight, switches, &mut self.notes);
+        hand_over_made(plant, steps, k, switches, &mut self.notes);
+        let outlets = self.outlets.as_mut_slice();
+        send_all(switches, outlets);
+        append_rows(site, row, k, self.outlets.as_slice(), &self.notes, journal);
+        bring_all(site, row, self.outlets.as_slice(), &mut self.flight);
+    }
+}

@@ -3,6 +3,7 @@
 ghost use Rattle.std.specs.Prelude.{◌≡◌, ℕ, List, ◌==◌, IfOk, position, find, slice_get};
 ghost use Rattle.std.specs.Prelude.{option_to_list, option_and_then, unwrap_or};
 ghost use Rattle.irt_base.specs.Wiring.{peer_of, hop_of};
+ghost use Rattle.link_index.specs.Index.{IsIndexOf};
 ghost use Rattle.irt_base.specs.declared.blocks.Bundle.{Bundle};
 ghost use Rattle.irt_base.specs.declared.plants.Demand.{Demand};
 ghost use Rattle.plan_rules.specs.Plan.{IsPlan};
@@ -70,6 +71,13 @@ impl Site {
         &self.plant
     }
 
+    /// Its links by port.
+    pub fn links(&self) -> &LinkIndex
+        ensures { IsIndexOf self.now.plant result.now }
+    {
+        &self.links
+    }
+
     /// How long a device takes to send a frame on, in ns, 0 where the row does not say.
     pub fn bridge(&self, row: &Row, device: DevId, frame: FrameId) -> u32
         ensures { result ≡
@@ -119,7 +127,8 @@ impl Site {
         })
     }
 
-    fn is_uncut(&self, row: &Row, device: DevId, port: PortNo) -> bool
+    /// Whether a port has no link, or one that is not cut.
+    pub fn is_uncut(&self, row: &Row, device: DevId, port: PortNo) -> bool
         ensures { (bundles : List Bundle) (k : ℕ) →
             result ≡ is_uncut self.now.plant (world_row self.now.plant bundles row.now) device.0 port.0 }
     {
