@@ -1,1 +1,4 @@
+pub mod Drained
 pub mod Joined
+pub mod Links
+pub mod Times

@@ -1,6 +1,7 @@
 //! What links bring to the next cycle.
 
-ghost use Rattle.std.specs.Prelude.{◌≡◌, ◌+◌, ◌*◌, ◌≤◌, ◌++◌, List, length, flat_map};
+ghost use Rattle.std.specs.Prelude.{◌≡◌, ◌+◌, ◌*◌, ◌≤◌, ◌++◌, length, flat_map, slice_get, option_and_then};
+ghost use Rattle.std.specs.Option.{option_copied};
 ghost use Rattle.period_gate.specs.declared.queue.TheConstants.{QUEUE_ROOM};
 ghost use Rattle.net_parcels.specs.Outlets.{parcel_world, brought_to};
 
@@ -42,6 +43,8 @@ fn bring_to(site: &Site, row: &Row, outlets: &[Outlet], outlet: &Outlet, flight:
 }
 
 /// The port at the other end of a port's link.
-fn far_outlet<'a>(outlets: &'a [Outlet], outlet: &Outlet) -> Option<&'a Outlet> {
+fn far_outlet<'a>(outlets: &'a [Outlet], outlet: &Outlet) -> Option<&'a Outlet>
+    ensures { option_copied result ≡ option_and_then (slice_get outlets.now) outlet.now.far }
+{
     outlets.get(outlet.far?)
 }

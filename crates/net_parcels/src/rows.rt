@@ -1,14 +1,18 @@
 //! The rows of a cycle's parcels.
 
 ghost use Rattle.std.specs.Prelude.{◌≡◌, ◌+◌, ◌≤◌, ◌++◌, List, length, flat_map, map, All};
+ghost use Rattle.irt_base.specs.declared.plants.Plant.{Plant};
 ghost use Rattle.irt_world.specs.Rows.{IsError};
+ghost use Rattle.irt_world.specs.declared.rows.Row.{Row};
+ghost use Rattle.net_begin.specs.Clocks.{begin_of};
+ghost use Rattle.net_starts.specs.Released.{IsSmallTime};
 ghost use Rattle.parcel_rules.specs.Rows.{sent_row, lost_row};
 ghost use Rattle.net_parcels.specs.Outlets.{parcel_world, sent_rows_of, lost_rows_of, all_rows_of};
 
 use crate::notes::Notes;
 use crate::outlets::Outlet;
 use cycle_rows::rows::JournalRow;
-use irt_base::numbers::{DevId, PortNo};
+use irt_base::numbers::{DevId, Ns, PortNo};
 use irt_base::plants::Plant;
 use irt_world::rows::Row;
 use net_begin::clocks::begin_event;
@@ -76,8 +80,17 @@ fn append_sent_by(plant: &Plant, row: &Row, k: u32, outlet: &Outlet, journal: &m
 {
     let begin = begin_event(plant, row, k, outlet.at.0).at;
     for one in outlet.sent.as_slice() {
-        journal.push(sent_row(k, outlet.at, *one, begin));
+        journal.push(row_of_sent(k, outlet.at, *one, begin));
     }
+}
+
+/// The row of a parcel that a port has sent in cycle `k`, by the begin of its device's cycle.
+fn row_of_sent(k: u32, at: (DevId, PortNo), one: Sent, begin: Ns) -> JournalRow
+    requires { IsSmallTime 60 begin }
+    ensures { (plant : Plant) (row : Row) → begin ≡ begin_of plant row k at.0.0 →
+        result ≡ sent_row plant (parcel_world row) k at one }
+{
+    sent_row(k, at, one, begin)
 }
 
 /// Appends the rows of parcels that were sent onto cut links, by port and start. It takes no memory.
