@@ -18,7 +18,7 @@ use Rattle.net_starts.specs.Released.{starts_from}
 use Rattle.net_begin.specs.Begun.{HaveBegun, released, starts_of_all}
 use Rattle.net_begin.specs.Clocks.{keeps_step}
 
-at_set : {A : Type 0} (xs : List A) (place index : ℕ) (x : A) → index ≢ place → slice_get (set xs place x) index ≡ slice_get xs index
+pub at_set : {A : Type 0} (xs : List A) (place index : ℕ) (x : A) → index ≢ place → slice_get (set xs place x) index ≡ slice_get xs index
 at_set xs place index x other =
     elim (cases_lt index (length xs)) [
       | inl below ↦
@@ -27,7 +27,7 @@ at_set xs place index x other =
       | inr past ↦ slice_get_past (set xs place x) index (omega (arith, length-set xs place x)) ∙ sym (slice_get_past xs index past)
     ]
 
-at_place : {A : Type 0} (xs : List A) (place : ℕ) (x : A) → place < length xs → slice_get (set xs place x) place ≡ Some x
+pub at_place : {A : Type 0} (xs : List A) (place : ℕ) (x : A) → place < length xs → slice_get (set xs place x) place ≡ Some x
 at_place xs place x below =
     slice_get-get_or (set xs place x) place x (omega (arith, length-set xs place x)) ∙ ap Some (get_or-set_same xs place x x below)
 

@@ -66,7 +66,7 @@ module _ (old now : SwitchState) (port most call local : ℕ) (sent : List Sent)
       ∙ ap (λ (s : SwitchState). with_gate s port (left_after gives Left)) d.state
       ∙ gate_again old port Left (left_after gives Left)
 
-  pub one_more : (after : SwitchState) (one : Sent) → call < most → Some one ≡ sent_next now port local →
+  one_more : (after : SwitchState) (one : Sent) → call < most → Some one ≡ sent_next now port local →
       after ≡ with_gate now port (left_after (Some one) (gate_of now port)) → IsDraining old after port most (call + 1) one.end (sent ++ one ∷ [])
   one_more after one below given is = record {
     state = is ∙ after_now (Some one) ∙ ap (with_gate old port) (sym (left-append (gate_of old port) sent one));
@@ -83,6 +83,11 @@ module _ (old now : SwitchState) (port most call local : ℕ) (sent : List Sent)
           ∙ ap (λ o. first_and_more o (λ (x : Sent). sent_in (most - (call + 1)) (without_head x.«class» Left) x.end)) gives
           ∙ ap (λ n. sent_in n Left local) (sym one_left)
       by_step false gives = absurd (cc)
+
+  pub one_put : (after : SwitchState) (one : Sent) (put : List Sent) → call < most → Some one ≡ sent_next now port local →
+      after ≡ with_gate now port (left_after (Some one) (gate_of now port)) → put ≡ sent ++ one ∷ [] → IsDraining old after port most (call + 1) one.end put
+  one_put after one put below given is pushed =
+      subst (IsDraining old after port most (call + 1) one.end) (sym pushed) (one_more after one below given is)
 
   pub no_more : None ≡ sent_next now port local → sent ≡ sent_by_port old port
   no_more none = sym (append-nil sent) ∙ ap (λ ys. sent ++ ys) (sym (by_step old.in_step (none ∙ next_now) (most - call))) ∙ d.rest

@@ -1,4 +1,5 @@
 pub mod Drained
 pub mod Joined
 pub mod Links
+pub mod Sendings
 pub mod Times

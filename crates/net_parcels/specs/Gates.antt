@@ -55,7 +55,7 @@ pub record HasLeft (old new : List SwitchState) (at : Step) (sent : List Sent) :
 -- an outlet has all that its port sends
 pub record HasSent (old new : List SwitchState) (outlet : Outlet) : Type 0 where
   pub left : HasLeft old new outlet.at outlet.sent
-  pub sent : outlet.sent ≡ sent_by_port left.before outlet.at.1.0
+  pub sent : (s : SwitchState) → slice_get old outlet.at.0.0 ≡ Some s → outlet.sent ≡ sent_by_port s outlet.at.1.0
 
 -- all that does not wait at gates
 abbrev pub all_but_gates : List SwitchState → List SwitchState

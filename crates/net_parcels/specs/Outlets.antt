@@ -25,7 +25,7 @@ abbrev pub ends_of : List Outlet → List End
 ends_of outlets = map end_of outlets
 
 abbrev pub ports_of : List Outlet → List Step
-ports_of outlets = map (λ (o : Outlet). o.at) outlets
+ports_of outlets = map (λ (e : End). e.0) (ends_of outlets)
 
 -- the port at a place
 abbrev pub port_in : List End → Option ℕ → Option Step
