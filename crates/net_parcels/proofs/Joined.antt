@@ -18,7 +18,7 @@ flat_map_more f xs i x below is =
     ap (flat_map f) (take_more xs i x below) ∙ flat_map-append f (take i xs) (get_or xs i x ∷ [])
     ∙ ap (λ ys. flat_map f (take i xs) ++ ys) (append-nil (f (get_or xs i x)) ∙ ap f (sym is))
 
-joined : {A : Type 0} (xs : List A) (n : ℕ) → take n xs ++ drop n xs ≡ xs
+pub joined : {A : Type 0} (xs : List A) (n : ℕ) → take n xs ++ drop n xs ≡ xs
 joined xs n = grind (arith, common_steps)
 
 pub flat_map_within : {X A : Type 0} (f : X → List A) (xs : List X) (i : ℕ) (x : X) → i < length xs → x ≡ get_or xs i x →

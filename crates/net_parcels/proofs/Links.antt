@@ -51,7 +51,7 @@ module _ (plant : Plant) (row : Row) (o : Outlet) where
       ∙ ap (λ (b : Bool). with_more flight (if b then map (handed_on o.at.0) one.sent else [])) uncut
       ∙ ap (λ (x : Option Outlet). with_more flight (over_link plant (parcel_world row) o x)) some
 
--- ---- what is lost
+  -- ---- what is lost
 
   pub lost_by_cut : (k : ℕ) → false ≡ is_uncut plant (parcel_world row) o.at.0.0 o.at.1.0 →
       map (lost_row k o.at) o.sent ≡ lost_rows_of plant (parcel_world row) k o

@@ -25,7 +25,7 @@ gate_like s before port kept count has =
       within = omega arith;
     }
 
-other_gate : (s : SwitchState) (port other : ℕ) (gate : Waiting) → 1 ≤ port → 1 ≤ other → (port ≡ other → ⊥) → gate_of (with_gate s port gate) other ≡ gate_of s other
+pub other_gate : (s : SwitchState) (port other : ℕ) (gate : Waiting) → 1 ≤ port → 1 ≤ other → (port ≡ other → ⊥) → gate_of (with_gate s port gate) other ≡ gate_of s other
 other_gate s port other gate low too apart =
     get_or-set_other s.gates (port - 1) (other - 1) gate nothing_waiting (λ same. apart (let e : other - 1 ≡ port - 1 = same in omega arith))
 
@@ -113,7 +113,7 @@ module _ (old now next : List SwitchState) (o : Outlet) (is : IsSent now o next)
 
 -- ---- all ports
 
-at_index : {A : Type 0} (P : A → Type 0) (xs : List A) (k : ℕ) (x : A) → All P xs → slice_get xs k ≡ Some x → P x
+pub at_index : {A : Type 0} (P : A → Type 0) (xs : List A) (k : ℕ) (x : A) → All P xs → slice_get xs k ≡ Some x → P x
 at_index P xs k x all is = subst P (get_or_from_slice_get xs k x x is) (all k x (slice_get_within xs k x is))
 
 port_in_place : (outlets : List Outlet) (j : ℕ) (o : Outlet) → slice_get outlets j ≡ Some o → slice_get (ports_of outlets) j ≡ Some o.at
@@ -165,7 +165,7 @@ apart_at ports i j x y apart other one two device port =
     ]
   where
     not_same : (a b : ℕ) → (a ≡ b → ⊥) → b ≤ a → b < a
-    not_same a b e le = elim (cases_lt b a) [ | inl less ↦ less | inr more ↦ absurd (e (omega arith)) ]
+    not_same a b e le = elim (cases_lt b a) [ inl less ↦ less | inr more ↦ absurd (e (omega arith)) ]
 
     at_pair : (a b : ℕ) (v w : Step) → a < b → slice_get ports a ≡ Some v → slice_get ports b ≡ Some w → v.0.0 ≡ w.0.0 → v.1.0 ≡ w.1.0 → ⊥
     at_pair a b v w less at_a at_b =

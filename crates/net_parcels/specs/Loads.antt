@@ -31,3 +31,7 @@ pub record AreStepsOf (plant : Plant) (walks : List (List PortNo)) (steps : List
   pub count : length steps ≡ length plant.traffic
   pub each : (number : ℕ) (t : Traffic) → slice_get plant.traffic number ≡ Some t →
       slice_get steps number ≡ Some (steps_from plant t.source (slice_index_or walks number []))
+
+-- the steps are those of some walks
+abbrev pub AreStepsOfSome : Plant → List (List Step) → Type 0
+AreStepsOfSome plant steps = (walks : List (List PortNo)) × AreStepsOf plant walks steps

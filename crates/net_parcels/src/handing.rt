@@ -10,7 +10,7 @@ ghost use Rattle.parcel_rules.specs.declared.handed.Handed.{Handed};
 ghost use Rattle.plan_rules.specs.World.{WorldRow};
 ghost use Rattle.plant_rules.specs.Meets.{MeetsRules};
 ghost use Rattle.net_parcels.specs.Gates.{HoldOffers, HoldSome, AreAtPorts, all_but_gates};
-ghost use Rattle.net_parcels.specs.Loads.{AreStepsOf};
+ghost use Rattle.net_parcels.specs.Loads.{AreStepsOf, AreStepsOfSome};
 ghost use Rattle.net_parcels.specs.Notes.{noted};
 ghost use Rattle.net_parcels.specs.Parcels.{made_at_most};
 
@@ -20,6 +20,7 @@ use irt_base::numbers::{DevId, PortNo};
 use irt_base::plants::{Plant, Traffic};
 use irt_switch::Switch;
 use parcel_loads::flight::Flight;
+use parcel_loads::law::passing_follows_the_rules;
 use parcel_loads::made::{made, makes};
 use parcel_loads::passing::pass_on;
 use parcel_rules::handed::Handed;
@@ -46,9 +47,10 @@ pub fn hand_over(
     ensures room { notes.new.room ≡ notes.old.room }
 {
     let number = usize::from(handed.parcel.traffic);
-    let (Some(entry), Some(walk)) = (plant.traffic.as_slice().get(number), steps.get(number)) else {
+    let (Some(entry), Some(walk)) = (plant.traffic.get(number), steps.get(number)) else {
         return;
     };
+    passing_follows_the_rules();
     let switch = &mut switches[usize::from(handed.device.0)];
     let passed = pass_on(switch, entry, walk.as_slice(), handed);
     notes.note(k, handed, passed);
@@ -63,6 +65,7 @@ pub fn hand_over_flight(
     switches: &mut [Switch],
     notes: &mut Notes,
 )
+    requires walks { AreStepsOfSome plant.now steps.now }
     requires steps { AreAtPorts plant.now steps.now }
     requires held { HoldSome plant.now k switches.old notes.old }
     requires devices { All (λ (h : Handed). h.device.0 < length switches.old) flight.now.handed }
@@ -75,10 +78,8 @@ pub fn hand_over_flight(
     ensures few { noted notes.new ≤ noted notes.old + length flight.now.handed }
     ensures room { notes.new.room ≡ notes.old.room }
 {
-    for place in 0..flight.len() {
-        if let Some(handed) = flight.get(place) {
-            hand_over(plant, steps, k, *handed, switches, notes);
-        }
+    for handed in flight.as_slice() {
+        hand_over(plant, steps, k, *handed, switches, notes);
     }
 }
 
@@ -92,6 +93,7 @@ pub fn hand_over_made(
 )
     requires rules { MeetsRules plant.now }
     requires run { k < MAX_CYCLES }
+    requires walks { AreStepsOfSome plant.now steps.now }
     requires steps { AreAtPorts plant.now steps.now }
     requires held { HoldSome plant.now k switches.old notes.old }
     requires devices { length plant.now.devices ≤ length switches.old }
@@ -101,6 +103,7 @@ pub fn hand_over_made(
         HoldOffers plant.now bundles row k switches.new notes.new
         (fold (hand_over plant.now walks k) o (made_in plant.now k)) }
     ensures kept { all_but_gates switches.new ≡ all_but_gates switches.old }
+    ensures room { notes.new.room ≡ notes.old.room }
 {
     for (number, entry) in plant.traffic.as_slice().iter().enumerate() {
         hand_over_made_by(plant, steps, k, number as u16, entry, switches, notes);
@@ -119,6 +122,7 @@ fn hand_over_made_by(
 )
     requires every { 1 ≤ entry.now.every }
     requires run { k < MAX_CYCLES }
+    requires walks { AreStepsOfSome plant.now steps.now }
     requires steps { AreAtPorts plant.now steps.now }
     requires held { HoldSome plant.now k switches.old notes.old }
     requires source { entry.now.source.0 < length switches.old }

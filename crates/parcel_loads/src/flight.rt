@@ -47,6 +47,13 @@ impl Flight {
         self.parcels.len()
     }
 
+    /// All of them, in the order of handing over.
+    pub fn as_slice(&self) -> &[Handed]
+        ensures { result.now ≡ self.now.handed }
+    {
+        self.parcels.as_slice()
+    }
+
     /// The parcel at a place, in the order of handing over.
     pub fn get(&self, place: usize) -> Option<&Handed>
         ensures { option_copied result ≡ slice_get self.now.handed place }

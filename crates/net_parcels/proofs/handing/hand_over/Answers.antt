@@ -1,26 +1,20 @@
-use Rattle.std.proofs.Common.{rules, ◌≡◌, ◌+◌, ◌<◌, ◌≤◌, ◌++◌, ℕ, List, length, fold, All, ◌-◌, ◌*◌, ◌/◌, ◌%◌, Bool, true, false, nat_eq, nat_lt, [], ◌∷◌, slice_index_or, slice_set, bit_and, bit_or, Fits, w8, w32, w64, Bor, MutBor}
-use Rattle.irt_base.specs.declared.blocks.Bundle.{Bundle}
-use Rattle.irt_base.specs.declared.limits.TheConstants.{MAX_CYCLES}
-use Rattle.irt_base.specs.declared.numbers.PortNo.{PortNo}
-use Rattle.parcel_rules.specs.Loads.{Offers, hand_over}
-use Rattle.parcel_rules.specs.Made.{made_in, made_at_source}
-use Rattle.parcel_rules.specs.declared.handed.Handed.{Handed}
-use Rattle.plan_rules.specs.World.{WorldRow}
-use Rattle.plant_rules.specs.Meets.{MeetsRules}
-use Rattle.net_parcels.specs.Gates.{HoldOffers, HoldSome, AreAtPorts, all_but_gates}
-use Rattle.net_parcels.specs.Loads.{AreStepsOf}
-use Rattle.net_parcels.specs.Notes.{noted}
-use Rattle.net_parcels.specs.Parcels.{made_at_most}
+use Rattle.net_parcels.proofs.Offering.{walk_there, step_has_port, handed_over_at, keeps_all}
 use Rattle.net_parcels.proofs.handing.hand_over.Goals as goal
 
--- src/handing.rt:53:9
 pub pass_on-passed-requires : goal.pass_on-passed-requires
-pass_on-passed-requires c = ?
+pass_on-passed-requires c =
+    let (bundles, row, o, holds) = c.requires.held in
+    step_has_port c.args.plant.now bundles row c.args.k c.args.switches.now c.args.notes.now o holds c.args.handed c.from.result c.index-switches-from.result c.from.ensures
+    c.requires.device c.args.steps.now c.requires.steps c.from-number.result c.in-Some-Some.walk.now c.as_slice.result.now (walk_there c.args.steps.now c.from-number.result c.in-Some-Some.walk.now c.in-Some-Some.ensures'.lookup.3.0 c.in-Some-Some.ensures'.lookup.1)
+    c.as_slice.ensures
 
--- src/handing.rt:29:1
 pub returns-clause-rules : goal.returns-clause-rules
-returns-clause-rules c = ?
+returns-clause-rules c = λ bundles row walks o are holds.
+    handed_over_at c.args.plant.now bundles row c.args.k c.args.switches.now c.args.notes.now o holds c.args.handed c.from.result c.index-switches-from.result c.from.ensures
+    c.requires.device c.args.steps.now c.requires.steps c.from-number.result c.in-Some-Some.walk.now c.as_slice.result.now (walk_there c.args.steps.now c.from-number.result c.in-Some-Some.walk.now c.in-Some-Some.ensures'.lookup.3.0 c.in-Some-Some.ensures'.lookup.1)
+    c.as_slice.ensures c.passing_follows_the_rules.ensures walks are c.from-number.ensures c.in-Some-Some.entry.now c.in-Some-Some.ensures
+    c.pass_on-passed.result c.pass_on-passed.ensures.passed c.pass_on-passed.new.switch c.pass_on-passed.ensures.switch c.note.new.self c.note.ensures
 
--- src/handing.rt:29:1
 pub returns-clause-kept : goal.returns-clause-kept
-returns-clause-kept c = ?
+returns-clause-kept c =
+    keeps_all _ _ _ _ c.in-Some-Some.entry.now.«class» c.args.handed.parcel c.pass_on-passed.result c.pass_on-passed.ensures.switch
