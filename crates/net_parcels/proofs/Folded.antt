@@ -6,6 +6,7 @@ use Rattle.std.proofs.lemmas.List.{length-map, map-append}
 use Rattle.std.proofs.lemmas.List.FromFn.{length-range_with_len, length-enumerate_from, get_or-enumerate_from}
 use Rattle.std.proofs.lemmas.Grind.{common_steps}
 use Rattle.std.proofs.lemmas.List.Sums.{fold-append, sum_by-append}
+use Rattle.std.proofs.lemmas.Option.{slice_get_within, get_or_from_slice_get}
 use Rattle.irt_base.specs.declared.blocks.Bundle.{Bundle}
 use Rattle.irt_base.specs.declared.numbers.PortNo.{PortNo}
 use Rattle.irt_base.specs.declared.plants.Plant.{Plant}
@@ -116,13 +117,12 @@ made_none k number t due = ap (λ (b : Bool). map (handed_to t.source) (if b the
 
 module _ (plant : Plant) (steps : List (List Step)) (k : ℕ) (switches now next : List SwitchState) (notes notes_now notes_next : NotesState) where
   -- the next of a list
-  pub next_handed : (all slice : List Handed) (i : ℕ) (h : Handed) → slice ≡ all → i < length slice → h ≡ get_or slice i h →
+  pub next_handed : (all : List Handed) (i : ℕ) (h : Handed) → slice_get all i ≡ Some h →
       HaveHanded plant steps k switches notes now notes_now (take i all) → HaveHanded plant steps k now notes_now next notes_next (h ∷ []) →
       HaveHanded plant steps k switches notes next notes_next (take (i + 1) all)
-  next_handed all slice i h same below is so_far one =
-      let same_length = ap length same in
+  next_handed all i h is so_far one =
       then_handed plant steps k switches now next notes notes_now notes_next (take i all) (h ∷ []) (take (i + 1) all) so_far one
-      (take_more all i h (omega arith) ∙ ap (λ xs. take i all ++ get_or xs i h ∷ []) (sym same) ∙ ap (λ x. take i all ++ x ∷ []) (sym is))
+      (take_more all i h (slice_get_within all i h is) ∙ ap (λ x. take i all ++ x ∷ []) (get_or_from_slice_get all i h h is))
 
   -- the next that an entry makes
   pub next_made : (number : ℕ) (t : Traffic) (first place : ℕ) (h : Handed) → h ≡ handed_to t.source (parcel_of number t (first + place)) →
@@ -172,7 +172,10 @@ counts_more : (xs : List Traffic) (i : ℕ) (t : Traffic) → i < length xs → 
     sum_by (λ (x : Traffic). x.count) (take (i + 1) xs) ≡ sum_by (λ (x : Traffic). x.count) (take i xs) + t.count
 counts_more xs i t below is =
     ap (sum_by (λ (x : Traffic). x.count)) (take_more xs i t below) ∙ sum_by-append (λ (x : Traffic). x.count) (take i xs) (get_or xs i t ∷ [])
-    ∙ ap (λ n. sum_by (λ (x : Traffic). x.count) (take i xs) + n) (let e : (get_or xs i t).count + 0 ≡ (get_or xs i t).count = omega arith in e ∙ ap (λ (x : Traffic). x.count) (sym is))
+    ∙ ap (λ n. sum_by (λ (x : Traffic). x.count) (take i xs) + n) (count_alone (get_or xs i t) ∙ ap (λ (x : Traffic). x.count) (sym is))
+  where
+    count_alone : (x : Traffic) → sum_by (λ (y : Traffic). y.count) (x ∷ []) ≡ x.count
+    count_alone x = omega arith
 
 counts_within : (xs : List Traffic) (i : ℕ) (t : Traffic) → i < length xs → t ≡ get_or xs i t →
     sum_by (λ (x : Traffic). x.count) (take i xs) + t.count ≤ sum_by (λ (x : Traffic). x.count) xs

@@ -1,6 +1,6 @@
 //! Handing over to the devices.
 
-ghost use Rattle.std.specs.Prelude.{◌≡◌, ◌+◌, ◌<◌, ◌≤◌, ◌++◌, ℕ, List, length, fold, All};
+ghost use Rattle.std.specs.Prelude.{◌≡◌, ◌+◌, ◌<◌, ◌≤◌, ◌++◌, ℕ, List, length, fold, slice_get, Some, All};
 ghost use Rattle.irt_base.specs.declared.blocks.Bundle.{Bundle};
 ghost use Rattle.irt_base.specs.declared.limits.TheConstants.{MAX_CYCLES};
 ghost use Rattle.irt_base.specs.declared.numbers.PortNo.{PortNo};
@@ -78,9 +78,18 @@ pub fn hand_over_flight(
     ensures few { noted notes.new ≤ noted notes.old + length flight.now.handed }
     ensures room { notes.new.room ≡ notes.old.room }
 {
-    for handed in flight.as_slice() {
-        hand_over(plant, steps, k, *handed, switches, notes);
+    for place in 0..flight.len() {
+        let handed = handed_at(flight, place);
+        hand_over(plant, steps, k, handed, switches, notes);
     }
+}
+
+/// The parcel at a place of those that links have brought.
+fn handed_at(flight: &Flight, place: usize) -> Handed
+    requires { place < length flight.now.handed }
+    ensures { slice_get flight.now.handed place ≡ Some result }
+{
+    flight.as_slice()[place]
 }
 
 /// Hands all over that is made in cycle `k`, by traffic entry. It takes no memory.

@@ -1,11 +1,11 @@
 use Rattle.std.proofs.Common.{arith, ◌*◌, ◌/◌}
-use Rattle.net_parcels.proofs.Folded.{still_some, one_handed, next_made, made_count, made_done}
+use Rattle.net_parcels.proofs.Folded.{still_some, one_handed, next_made, made_first, made_count, made_done}
 use Rattle.net_parcels.proofs.handing.hand_over_made_by.Goals as goal
 
 pub hand_over-requires-clause-held : goal.hand_over-requires-clause-held
 hand_over-requires-clause-held c =
     let (walks, are) = c.requires.walks in
-    still_some _ _ _ _ _ _ _ _ c.loop-place.invariant.rules walks are c.requires.held
+    still_some _ _ _ _ _ _ _ (made_first c.args.number c.args.entry.now (c.args.k / c.args.entry.now.every * c.args.entry.now.count) c.loop-place.place) c.loop-place.invariant.rules walks are c.requires.held
 
 pub hand_over-requires-clause-room : goal.hand_over-requires-clause-room
 hand_over-requires-clause-room c =
