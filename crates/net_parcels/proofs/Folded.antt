@@ -187,7 +187,7 @@ counts_within xs i t below is =
 
 module _ (plant : Plant) (steps : List (List Step)) (k : ℕ) (switches now : List SwitchState) (notes notes_now : NotesState) (place : ℕ)
     (made : HaveMade plant steps k switches notes now notes_now place) where
-  pub made_fits : (t : Traffic) → place < length plant.traffic → t ≡ get_or plant.traffic place t → noted notes + sum_by (λ (x : Traffic). x.count) plant.traffic ≤ notes.room →
+  made_fits : (t : Traffic) → place < length plant.traffic → t ≡ get_or plant.traffic place t → noted notes + sum_by (λ (x : Traffic). x.count) plant.traffic ≤ notes.room →
       noted notes_now + t.count ≤ notes_now.room
   made_fits t below is fits =
       let within = counts_within plant.traffic place t below is in
@@ -195,7 +195,11 @@ module _ (plant : Plant) (steps : List (List Step)) (k : ℕ) (switches now : Li
       let room = made.room in
       omega arith
 
-  pub made_next : (next : List SwitchState) (notes_next : NotesState) (t : Traffic) (number : ℕ) → place < length plant.traffic → t ≡ get_or plant.traffic place t → number ≡ place →
+  pub fits_entry : (t : Traffic) → slice_get plant.traffic place ≡ Some t → noted notes + sum_by (λ (x : Traffic). x.count) plant.traffic ≤ notes.room →
+      noted notes_now + t.count ≤ notes_now.room
+  fits_entry t is = made_fits t (slice_get_within plant.traffic place t is) (sym (get_or_from_slice_get plant.traffic place t t is))
+
+  made_next : (next : List SwitchState) (notes_next : NotesState) (t : Traffic) (number : ℕ) → place < length plant.traffic → t ≡ get_or plant.traffic place t → number ≡ place →
       Follows plant steps k now notes_now next notes_next (made_at_source k number t) → all_but_gates next ≡ all_but_gates now → noted notes_next ≤ noted notes_now + t.count →
       notes_next.room ≡ notes_now.room → HaveMade plant steps k switches notes next notes_next (place + 1)
   made_next next notes_next t number below is named rules kept more room =
@@ -217,6 +221,11 @@ module _ (plant : Plant) (steps : List (List Step)) (k : ℕ) (switches now : Li
         few = (let first = made.few in let counts = counts_more plant.traffic place t below is in omega arith);
         room = room ∙ made.room;
       }
+
+  pub next_entry : (next : List SwitchState) (notes_next : NotesState) (t : Traffic) → slice_get plant.traffic place ≡ Some t →
+      Follows plant steps k now notes_now next notes_next (made_at_source k place t) → all_but_gates next ≡ all_but_gates now → noted notes_next ≤ noted notes_now + t.count →
+      notes_next.room ≡ notes_now.room → HaveMade plant steps k switches notes next notes_next (place + 1)
+  next_entry next notes_next t is = made_next next notes_next t place (slice_get_within plant.traffic place t is) (sym (get_or_from_slice_get plant.traffic place t t is)) refl
 
   pub made_whole : length plant.traffic ≤ place → Follows plant steps k switches notes now notes_now (made_in plant k)
   made_whole end =

@@ -114,9 +114,21 @@ pub fn hand_over_made(
     ensures kept { all_but_gates switches.new ≡ all_but_gates switches.old }
     ensures room { notes.new.room ≡ notes.old.room }
 {
-    for (number, entry) in plant.traffic.as_slice().iter().enumerate() {
+    for number in 0..plant.traffic.len() {
+        let entry = entry_at(plant, number);
         hand_over_made_by(plant, steps, k, number as u16, entry, switches, notes);
     }
+}
+
+/// The traffic entry of a number.
+fn entry_at(plant: &Plant, number: usize) -> &Traffic
+    requires rules { MeetsRules plant.now }
+    requires there { number < length plant.now.traffic }
+    ensures entry { slice_get plant.now.traffic number ≡ Some result.now }
+    ensures every { 1 ≤ result.now.every }
+    ensures source { result.now.source.0 < length plant.now.devices }
+{
+    &plant.traffic.as_slice()[number]
 }
 
 /// Hands all over that an entry makes in cycle `k`, by serial. `number` is the entry's. It takes no memory.

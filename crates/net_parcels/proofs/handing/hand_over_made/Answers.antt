@@ -1,7 +1,7 @@
-use Rattle.std.proofs.Common.{arith, ap, length, take}
+use Rattle.std.proofs.Common.{arith, take}
 use Rattle.std.specs.Prelude.{flat_map}
 use Rattle.std.specs.List.{enumerate_from}
-use Rattle.net_parcels.proofs.Folded.{still_some, entry_made, made_next, made_whole}
+use Rattle.net_parcels.proofs.Folded.{still_some, entry_made, fits_entry, next_entry, made_whole}
 use Rattle.net_parcels.proofs.handing.hand_over_made.Goals as goal
 
 pub hand_over_made_by-requires-clause-held : goal.hand_over_made_by-requires-clause-held
@@ -11,5 +11,12 @@ hand_over_made_by-requires-clause-held c =
 
 pub returns-clause-rules : goal.returns-clause-rules
 returns-clause-rules c =
-    let same = ap length c.as_slice-entry-items.ensures in
     made_whole _ _ _ _ _ _ _ _ c.loop-number.invariant (omega arith)
+
+pub hand_over_made_by-requires-clause-room : goal.hand_over_made_by-requires-clause-room
+hand_over_made_by-requires-clause-room c = fits_entry _ _ _ _ _ _ _ _ c.loop-number.invariant _ c.entry_at-entry.ensures.entry c.requires.room
+
+pub loop-number-preserved : goal.loop-number-preserved
+loop-number-preserved c =
+    next_entry _ _ _ _ _ _ _ _ c.loop-number.invariant _ _ _ c.entry_at-entry.ensures.entry c.hand_over_made_by.ensures.rules c.hand_over_made_by.ensures.kept
+    c.hand_over_made_by.ensures.few c.hand_over_made_by.ensures.room
