@@ -1,7 +1,9 @@
+pub mod Cycles
 pub mod Drained
 pub mod Folded
 pub mod Joined
 pub mod Links
 pub mod Offering
+pub mod Opened
 pub mod Sendings
 pub mod Times

@@ -56,6 +56,34 @@ pub fn hand_over(
     notes.note(k, handed, passed);
 }
 
+/// Hands all over in cycle `k`: what links have brought, then what is made. It takes no memory.
+pub fn hand_over_all(
+    plant: &Plant,
+    steps: &[Items<(DevId, PortNo)>],
+    k: u32,
+    flight: &Flight,
+    switches: &mut [Switch],
+    notes: &mut Notes,
+)
+    requires rules { MeetsRules plant.now }
+    requires run { k < MAX_CYCLES }
+    requires walks { AreStepsOfSome plant.now steps.now }
+    requires steps { AreAtPorts plant.now steps.now }
+    requires held { HoldSome plant.now k switches.old notes.old }
+    requires count { length plant.now.devices ≤ length switches.old }
+    requires devices { All (λ (h : Handed). h.device.0 < length switches.old) flight.now.handed }
+    requires room { noted notes.old + length flight.now.handed + made_at_most plant.now ≤ notes.old.room }
+    ensures rules { (bundles : List Bundle) (row : WorldRow) (walks : List (List PortNo)) (o : Offers) →
+        AreStepsOf plant.now walks steps.now → HoldOffers plant.now bundles row k switches.old notes.old o →
+        HoldOffers plant.now bundles row k switches.new notes.new
+        (fold (hand_over plant.now walks k) o (flight.now.handed ++ made_in plant.now k)) }
+    ensures kept { all_but_gates switches.new ≡ all_but_gates switches.old }
+    ensures room { notes.new.room ≡ notes.old.room }
+{
+    hand_over_flight(plant, steps, k, flight, switches, notes);
+    hand_over_made(plant, steps, k, switches, notes);
+}
+
 /// Hands all over that links have brought, in its order. It takes no memory.
 pub fn hand_over_flight(
     plant: &Plant,

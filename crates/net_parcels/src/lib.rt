@@ -10,5 +10,6 @@ pub mod notes;
 pub mod outbox;
 pub mod outlets;
 pub mod parcels;
+pub mod playing;
 pub mod rows;
 pub mod sending;

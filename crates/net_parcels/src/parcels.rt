@@ -11,12 +11,9 @@ ghost use Rattle.net_parcels.specs.Gates.{all_but_gates};
 ghost use Rattle.net_parcels.specs.Loads.{HoldLoads, AreStepsOf};
 ghost use Rattle.net_parcels.specs.Parcels.{IsMadeFor, HaveWalks, AllHaveOpened, GrowsByParcels, parcel_part};
 
-use crate::bringing::bring_all;
-use crate::handing::{hand_over_flight, hand_over_made};
 use crate::notes::Notes;
 use crate::outlets::Outlet;
-use crate::rows::append_rows;
-use crate::sending::send_all;
+use crate::playing::play;
 use irt_base::list::Items;
 use irt_base::memory::NoMemory;
 use irt_base::numbers::{DevId, PortNo};
@@ -103,14 +100,16 @@ impl Parcels {
             switches.new self.new.flight }
         ensures switches { all_but_gates switches.new ≡ all_but_gates switches.old }
     {
-        self.notes.clear();
-        let plant = site.plant();
-        let steps = self.steps.as_slice();
-        hand_over_flight(plant, steps, k, &self.flight, switches, &mut self.notes);
-        hand_over_made(plant, steps, k, switches, &mut self.notes);
-        let outlets = self.outlets.as_mut_slice();
-        send_all(switches, outlets);
-        append_rows(site, row, k, self.outlets.as_slice(), &self.notes, journal);
-        bring_all(site, row, self.outlets.as_slice(), &mut self.flight);
+        play(
+            site,
+            row,
+            k,
+            self.steps.as_slice(),
+            self.outlets.as_mut_slice(),
+            &mut self.flight,
+            &mut self.notes,
+            switches,
+            journal,
+        );
     }
 }
