@@ -7,3 +7,4 @@ pub mod Offering
 pub mod Opened
 pub mod Sendings
 pub mod Times
+pub mod Whole
