@@ -5,6 +5,7 @@ pub mod Joined
 pub mod Links
 pub mod Offering
 pub mod Opened
+pub mod Placing
 pub mod Sendings
 pub mod Times
 pub mod Whole

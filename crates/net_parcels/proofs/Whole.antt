@@ -121,3 +121,26 @@ has_room plant row before outlets flight later inside same brings few = record {
   few = few;
   devices = subst (All (IsAtOneOf (ports_of outlets))) (sym (ap (λ (f : FlightState). f.handed) brings)) (brought_devices plant row outlets);
 }
+
+-- ---- the same walks and parcels, by another name
+
+abbrev pub Fits : Plant → List SwitchState → Row → ℕ → ℕ → List (List Step) → List Handed → Type 0
+Fits plant switches row k room steps handed =
+    (walks : List (List PortNo)) (loads : Loads) → AreStepsOf plant walks steps → HoldLoads plant switches handed loads →
+    length (parcel_part plant (bundles_of switches) walks row k loads) ≤ room
+
+pub fits_as : (plant : Plant) (switches : List SwitchState) (row : Row) (k room : ℕ) (steps other : List (List Step)) (handed others : List Handed) → other ≡ steps → others ≡ handed →
+    Fits plant switches row k room steps handed → Fits plant switches row k room other others
+fits_as plant switches row k room steps other handed others same also fits =
+    subst (λ x. Fits plant switches row k room x others) (sym same) (subst (Fits plant switches row k room steps) (sym also) fits)
+
+abbrev pub Grows : Plant → List SwitchState → Row → ℕ → Written → Written → List SwitchState → List Handed → List (List Step) → List Handed → Type 0
+Grows plant switches row k old new next later steps handed =
+    (walks : List (List PortNo)) (loads : Loads) → AreStepsOf plant walks steps → HoldLoads plant switches handed loads →
+    GrowsByParcels plant (bundles_of switches) walks row k loads old new next later
+
+pub grows_as : (plant : Plant) (switches : List SwitchState) (row : Row) (k : ℕ) (old new : Written) (next : List SwitchState) (later : List Handed) (steps other : List (List Step))
+    (handed others : List Handed) → other ≡ steps → others ≡ handed →
+    Grows plant switches row k old new next later other others → Grows plant switches row k old new next later steps handed
+grows_as plant switches row k old new next later steps other handed others same also grows =
+    subst (λ x. Grows plant switches row k old new next later x handed) same (subst (Grows plant switches row k old new next later other) also grows)

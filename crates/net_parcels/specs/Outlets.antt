@@ -64,3 +64,6 @@ ArePortsApart ports = AllPairs (λ (at other : Step). at.0.0 ≡ other.0.0 → a
 abbrev pub all_rows_of : Plant → WorldRow → ℕ → List Outlet → NotesState → List JournalRow
 all_rows_of plant row k outlets notes =
     flat_map (sent_rows_of plant row k) outlets ++ (notes.refused ++ (flat_map (lost_rows_of plant row k) outlets ++ notes.came))
+
+abbrev pub port_of : ℕ → ℕ → Step
+port_of device port = (record { 0 = device }, record { 0 = port })
