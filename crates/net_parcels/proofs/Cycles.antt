@@ -1,10 +1,9 @@
 -- A cycle of parcels, by the switches and the outlets as by the rules.
-use Rattle.std.proofs.Common.{◌≡◌, ℕ, zero, suc, ◌+◌, ◌*◌, ◌<◌, ◌≤◌, Bool, true, false, List, [], ◌∷◌, ◌++◌, length, map, get_or, Option, Some, None, refl, sym, ◌∙◌, ap, ap₂, subst, arith, slice_get, All, Contains}
-use Rattle.std.specs.Prelude.{if◌then◌else◌, flat_map, option_map, option_and_then, fold}
+use Rattle.std.proofs.Common.{◌≡◌, ℕ, zero, suc, ◌<◌, ◌≤◌, Bool, true, false, List, [], ◌∷◌, ◌++◌, length, map, get_or, Option, Some, None, refl, sym, ◌∙◌, ap, ap₂, subst, arith, slice_get, All, Contains}
+use Rattle.std.specs.Prelude.{if◌then◌else◌, flat_map, option_map, option_and_then}
 use Rattle.std.specs.Option.{option_map_or}
 use Rattle.std.proofs.lemmas.List.{length-map}
 use Rattle.std.proofs.lemmas.List.Elements.{All-nil, All-head, All-tail, All-map}
-use Rattle.std.proofs.lemmas.List.Sums.{fold-append}
 use Rattle.std.proofs.lemmas.Option.{same_Some, slice_get-get_or, slice_get_within, get_or_from_slice_get, slice_get-map}
 use Rattle.irt_base.specs.Periods.{period_at}
 use Rattle.irt_base.specs.Wiring.{peer_of}
@@ -13,28 +12,24 @@ use Rattle.irt_base.specs.declared.blocks.Period.{Period}
 use Rattle.irt_base.specs.declared.blocks.Side.TheVariants.{Tx}
 use Rattle.irt_base.specs.declared.numbers.DevId.{DevId}
 use Rattle.irt_base.specs.declared.plants.Plant.{Plant}
-use Rattle.irt_base.specs.declared.plants.Class.{Class}
-use Rattle.irt_base.specs.declared.plants.Class.TheVariants.{Orange, Green}
 use Rattle.irt_switch.specs.Begin.{begun_gate}
 use Rattle.irt_switch.specs.State.{SwitchState, gate_of}
 use Rattle.irt_world.specs.Rows.{world_row}
 use Rattle.irt_world.specs.declared.rows.Row.{Row}
-use Rattle.cycle_rows.specs.declared.rows.JournalRow.{JournalRow}
 use Rattle.parcel_rules.proofs.Lists.{All-flat_map}
 use Rattle.parcel_rules.proofs.Ports.{ports_differ}
 use Rattle.parcel_rules.proofs.Queues.{left_begun}
 use Rattle.parcel_rules.specs.Cycle.{all_ports, begun_at, sends, after_sending, handed_on, brought_from, brought}
-use Rattle.parcel_rules.specs.Loads.{Gates, gate_at, Loads, Offers}
+use Rattle.parcel_rules.specs.Loads.{Gates, gate_at, Offers}
 use Rattle.parcel_rules.specs.Rows.{sent_row, lost_row, sent_rows_at, lost_rows_at, rows_after}
 use Rattle.parcel_rules.specs.Steps.{Step}
 use Rattle.parcel_rules.specs.declared.handed.Handed.{Handed}
-use Rattle.period_gate.specs.Gate.{Waiting, nothing_waiting, without_head}
+use Rattle.period_gate.specs.Gate.{Waiting, nothing_waiting}
 use Rattle.period_gate.specs.SentList.{left_of, sent_of}
-use Rattle.period_gate.specs.declared.parcels.Sent.{Sent}
 use Rattle.plan_rules.specs.World.{WorldRow, is_uncut, is_in_step}
 use Rattle.net_parcels.proofs.Opened.{among_is, port_is}
 use Rattle.net_parcels.proofs.Sendings.{at_index}
-use Rattle.net_parcels.specs.Gates.{IsGated, IsGateAt, AreGatesAt, HasSent, HoldOffers, sent_by_port}
+use Rattle.net_parcels.specs.Gates.{IsGated, IsGateAt, AreGatesAt, HasSent, sent_by_port}
 use Rattle.net_parcels.specs.Invariant.{IsAtOneOf}
 use Rattle.net_parcels.specs.Loads.{HaveSameQueues, HoldGates, HoldLoads}
 use Rattle.net_parcels.specs.Notes.{NotesState}

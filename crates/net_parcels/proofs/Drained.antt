@@ -1,10 +1,10 @@
 -- A gate from which parcels are taken out, one after the other.
 use Rattle.std.proofs.Common.{◌≡◌, ℕ, zero, suc, ◌+◌, ◌-◌, ◌<◌, ◌≤◌, Bool, true, false, List, [], ◌∷◌, ◌++◌, length, set, Option, Some, None, refl, sym, ◌∙◌, ap, subst, arith, append-nil, append_assoc, length-append}
-use Rattle.std.specs.Prelude.{if◌then◌else◌, slice_set, slice_index_or}
+use Rattle.std.specs.Prelude.{if◌then◌else◌}
 use Rattle.std.proofs.lemmas.List.{set-get_or, get_or-set_same}
 use Rattle.irt_switch.specs.State.{SwitchState, gate_of, with_gate, sent_next}
 use Rattle.period_gate.specs.Gate.{Waiting, nothing_waiting, without_head, next_sent, left_after}
-use Rattle.period_gate.specs.SentList.{left_of, sent_in, sent_of, first_and_more}
+use Rattle.period_gate.specs.SentList.{left_of, sent_in, first_and_more}
 use Rattle.period_gate.specs.declared.parcels.Sent.{Sent}
 use Rattle.net_parcels.specs.Gates.{HasGate, sent_by_port}
 

@@ -1,13 +1,12 @@
 -- The gates of a network at the begin of a cycle, and the steps of its walks.
-use Rattle.std.proofs.Common.{◌≡◌, ℕ, zero, suc, ◌+◌, ◌-◌, ◌*◌, ◌<◌, ◌≤◌, ◌%◌, Bool, true, false, List, [], ◌∷◌, length, map, get_or, Option, Some, None, refl, sym, ◌∙◌, ap, subst, arith, inl, inr, slice_get, All, AllPairs, Contains}
-use Rattle.std.specs.Prelude.{slice_index_or, flat_map, option_map, option_and_then}
+use Rattle.std.proofs.Common.{◌≡◌, ℕ, zero, suc, ◌+◌, ◌-◌, ◌<◌, ◌≤◌, ◌%◌, List, [], ◌∷◌, length, get_or, Some, refl, sym, ◌∙◌, ap, subst, arith, inl, inr, slice_get, All, Contains}
+use Rattle.std.specs.Prelude.{slice_index_or, option_map, option_and_then}
 use Rattle.std.specs.List.{range_with_len, enumerate_from}
 use Rattle.std.proofs.lemmas.Bool.{cases_lt}
 use Rattle.std.proofs.lemmas.List.{length-map}
 use Rattle.std.proofs.lemmas.List.Elements.{All-nil, All-cons, All-map, All-weaker}
 use Rattle.std.proofs.lemmas.List.FromFn.{length-enumerate_from, get_or-enumerate_from}
-use Rattle.std.proofs.lemmas.Option.{same_Some, slice_get-get_or, slice_get_within, slice_get_past, get_or_from_slice_get, slice_get-map}
-use Rattle.irt_base.specs.Cycle.{cycle_time, guard_time}
+use Rattle.std.proofs.lemmas.Option.{same_Some, slice_get-get_or, slice_get_within, get_or_from_slice_get, slice_get-map}
 use Rattle.irt_base.specs.Periods.{number_of, side_of, port_period, period_at}
 use Rattle.irt_base.specs.Valid.{IsWithin, IsPhasePair, IsPortPeriods, IsPeriodBlock, IsSyncBlock, IsBundle}
 use Rattle.irt_base.specs.Wiring.{peer_of}
@@ -27,7 +26,7 @@ use Rattle.irt_base.specs.declared.plants.Plant.{Plant}
 use Rattle.irt_base.specs.declared.plants.Traffic.{Traffic}
 use Rattle.irt_route.specs.Routes.{AreTrafficWalks}
 use Rattle.irt_route.specs.Walks.{IsWalk, far_of}
-use Rattle.irt_switch.specs.Begin.{parcel_limit, begun_gate}
+use Rattle.irt_switch.specs.Begin.{parcel_limit}
 use Rattle.irt_switch.specs.State.{SwitchState, HasPort, gate_of}
 use Rattle.irt_world.specs.Rows.{world_row}
 use Rattle.irt_world.specs.declared.rows.Row.{Row}
@@ -43,9 +42,9 @@ use Rattle.plan_rules.specs.Places.{IsAccepted}
 use Rattle.plan_rules.specs.Plan.{IsPlan}
 use Rattle.plan_rules.specs.World.{WorldRow}
 use Rattle.plant_rules.specs.Meets.{MeetsRules}
-use Rattle.net_parcels.specs.Gates.{HasGate, IsGateAt, AreGatesAt, AreAtPorts}
-use Rattle.net_parcels.specs.Loads.{HaveSameQueues, HoldGates, AreStepsOf}
-use Rattle.net_parcels.specs.Parcels.{HasOpened, AllHaveOpened}
+use Rattle.net_parcels.specs.Gates.{IsGateAt, AreGatesAt, AreAtPorts}
+use Rattle.net_parcels.specs.Loads.{HoldGates, AreStepsOf}
+use Rattle.net_parcels.specs.Parcels.{AllHaveOpened}
 
 -- ---- steps
 

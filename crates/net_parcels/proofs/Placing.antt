@@ -1,6 +1,6 @@
 -- Outlets that are made one after the other.
 use Rattle.std.proofs.Common.{◌≡◌, ℕ, ◌+◌, ◌<◌, ◌≤◌, List, [], ◌∷◌, ◌++◌, map, length, take, get_or, refl, sym, ◌∙◌, ap, subst, arith, slice_get, All, Option, Some, None, Contains, append_assoc}
-use Rattle.std.specs.Prelude.{option_and_then, option_map, flat_map}
+use Rattle.std.specs.Prelude.{option_and_then, flat_map}
 use Rattle.std.specs.List.{range_with_len, enumerate_from}
 use Rattle.std.proofs.lemmas.List.FromFn.{length-enumerate_from, get_or-enumerate_from}
 use Rattle.irt_base.specs.declared.plants.Device.{Device}
@@ -92,3 +92,11 @@ devices_done plant now device end so_far =
 pub far_there : (plant : Plant) → MeetsRules plant → (ports : List Step) → ports ≡ all_ports plant → (at far : Step) → Some far ≡ peer_of plant at.0.0 at.1.0 → Contains ports far
 far_there plant rules ports all at far leads =
     subst (λ xs. Contains xs far) (sym all) (linked_among plant rules far at (mutual_peers plant rules at.0.0 at.1.0 far.0.0 far.1.0 (sym leads)))
+
+pub placed_next : (plant : Plant) (ports slice : List Step) (place : ℕ) (outlets next : List Outlet) (o : Outlet) → ports ≡ all_ports plant → slice ≡ ports →
+    slice_get ports place ≡ Some o.at → option_and_then (slice_get slice) o.far ≡ peer_of plant o.at.0.0 o.at.1.0 → next ≡ outlets ++ o ∷ [] →
+    ArePlaced plant (all_ports plant) place outlets → ArePlaced plant (all_ports plant) (place + 1) next
+placed_next plant ports slice place outlets next o all same there leads put h =
+    subst (ArePlaced plant (all_ports plant) (place + 1)) (sym put)
+    (one_placed plant (all_ports plant) place outlets o h (ap (λ xs. slice_get xs place) (sym all) ∙ there)
+    (ap (λ xs. option_and_then (slice_get xs) o.far) (sym (same ∙ all)) ∙ leads))

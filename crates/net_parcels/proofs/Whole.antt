@@ -1,5 +1,5 @@
 -- What the steps of a cycle need, and what they come to.
-use Rattle.std.proofs.Common.{◌≡◌, ℕ, ◌+◌, ◌*◌, ◌≤◌, List, [], ◌++◌, length, map, refl, sym, ◌∙◌, ap, subst, arith, All}
+use Rattle.std.proofs.Common.{◌≡◌, ℕ, ◌+◌, ◌*◌, ◌≤◌, List, [], ◌++◌, length, refl, sym, ◌∙◌, ap, subst, arith, All}
 use Rattle.std.specs.Prelude.{fold, flat_map}
 use Rattle.std.proofs.lemmas.List.{length-map}
 use Rattle.cycle_rows.specs.declared.rows.JournalRow.{JournalRow}
@@ -10,7 +10,7 @@ use Rattle.irt_world.specs.Rows.{world_row}
 use Rattle.irt_world.specs.declared.rows.Row.{Row}
 use Rattle.net_site.specs.Site.{SiteState, IsPlayedAt, bundles_of}
 use Rattle.parcel_loads.specs.Flight.{FlightState}
-use Rattle.parcel_rules.specs.Loads.{Loads, Offers, no_offers, hand_over, offered}
+use Rattle.parcel_rules.specs.Loads.{Loads, no_offers, hand_over, offered}
 use Rattle.parcel_rules.specs.Made.{made_in}
 use Rattle.parcel_rules.specs.Steps.{Step}
 use Rattle.parcel_rules.specs.declared.handed.Handed.{Handed}
@@ -26,7 +26,7 @@ use Rattle.net_parcels.specs.Invariant.{HasRoom, IsAtOneOf}
 use Rattle.net_parcels.specs.Loads.{HoldLoads, AreStepsOf}
 use Rattle.net_parcels.specs.Notes.{NotesState}
 use Rattle.net_parcels.specs.Outlets.{end_of, ends_of, ports_of, AreEndsOf, parcel_world, all_rows_of, brought_to}
-use Rattle.net_parcels.specs.Parcels.{HaveWalks, AllHaveOpened, GrowsByParcels, parcel_part, loads_after}
+use Rattle.net_parcels.specs.Parcels.{HaveWalks, AllHaveOpened, GrowsByParcels, parcel_part}
 use Rattle.net_parcels.specs.declared.outlets.Outlet.{Outlet}
 
 -- notes without rows

@@ -1,6 +1,5 @@
 -- The gates of a network's switches in a cycle, beside those of the rules.
-use Rattle.std.specs.Prelude.{◌≡◌, ℕ, ◌-◌, ◌<◌, ◌≤◌, if◌then◌else◌, List, [], map, length, Some, slice_get, slice_set, All, Contains}
-use Rattle.std.specs.Option.{option_map_or}
+use Rattle.std.specs.Prelude.{◌≡◌, ℕ, ◌-◌, ◌<◌, if◌then◌else◌, List, [], map, length, Some, slice_get, slice_set, All, Contains}
 use Rattle.irt_base.specs.Periods.{period_at}
 use Rattle.irt_base.specs.declared.blocks.Bundle.{Bundle}
 use Rattle.irt_base.specs.declared.blocks.Period.{Period}

@@ -1,5 +1,5 @@
 -- What parcels on the way keep.
-use Rattle.std.specs.Prelude.{◌≡◌, ℕ, ◌*◌, ◌≤◌, List, length, All, Contains}
+use Rattle.std.specs.Prelude.{◌≡◌, ◌*◌, ◌≤◌, List, length, All, Contains}
 use Rattle.period_gate.specs.declared.queue.TheConstants.{QUEUE_ROOM}
 use Rattle.parcel_loads.specs.Flight.{FlightState}
 use Rattle.parcel_rules.specs.Steps.{Step}

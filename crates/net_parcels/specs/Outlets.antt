@@ -1,8 +1,7 @@
 -- The ports of a network with what they send in a cycle.
-use Rattle.std.specs.Prelude.{◌≡◌, ℕ, ◌+◌, ◌*◌, ◌≤◌, ◌++◌, AllPairs, if◌then◌else◌, List, [], map, flat_map, length, Option, Some, None, option_map, option_and_then, slice_get, All, sum_by}
+use Rattle.std.specs.Prelude.{◌≡◌, ℕ, ◌++◌, AllPairs, if◌then◌else◌, List, [], map, flat_map, Option, Some, None, option_map, option_and_then, slice_get, All}
 use Rattle.irt_base.specs.Wiring.{peer_of}
 use Rattle.irt_base.specs.declared.plants.Plant.{Plant}
-use Rattle.irt_base.specs.declared.plants.Traffic.{Traffic}
 use Rattle.cycle_rows.specs.declared.rows.JournalRow.{JournalRow}
 use Rattle.irt_world.specs.Rows.{error_in, is_cut_in}
 use Rattle.irt_world.specs.declared.rows.Row.{Row}

@@ -6,7 +6,6 @@ ghost use Rattle.irt_base.specs.declared.numbers.PortNo.{PortNo};
 ghost use Rattle.irt_route.specs.Routes.{IsRoutesOf};
 ghost use Rattle.net_site.specs.Site.{IsPlayedAt, bundles_of};
 ghost use Rattle.parcel_rules.specs.Loads.{Loads};
-ghost use Rattle.parcel_rules.specs.Room.{most_rows};
 ghost use Rattle.net_parcels.specs.Gates.{all_but_gates};
 ghost use Rattle.net_parcels.specs.Loads.{HoldLoads, AreStepsOf};
 ghost use Rattle.net_parcels.specs.Parcels.{IsMadeFor, HaveWalks, AllHaveOpened, GrowsByParcels, parcel_part};
@@ -17,7 +16,6 @@ use crate::playing::play;
 use irt_base::list::Items;
 use irt_base::memory::NoMemory;
 use irt_base::numbers::{DevId, PortNo};
-use irt_base::plants::Plant;
 use irt_route::tables::Routes;
 use irt_switch::Switch;
 use irt_world::rows::Row;
@@ -66,14 +64,6 @@ impl Parcels {
         ensures flight { IfOk result (λ p. p.flight ≡ []) }
     {
         Err(NoMemory)
-    }
-
-    /// The most rows of a journal that the parcels which are made in a cycle may ever get.
-    pub fn most_rows(&self, plant: &Plant) -> u64
-        ensures { (walks : List (List PortNo)) → AreStepsOf plant.now walks self.now.steps →
-            result ≡ most_rows plant.now walks }
-    {
-        0
     }
 
     /// Plays the parcels of cycle `k`, which the switches have begun. It takes no memory.
