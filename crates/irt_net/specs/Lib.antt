@@ -1,1 +1,4 @@
+pub mod Came
 pub mod Net
+pub mod Places
+pub mod Whole

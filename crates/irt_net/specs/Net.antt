@@ -1,5 +1,6 @@
 -- A network, as its clauses see it, and what a cycle makes of it and of the journal.
-use Rattle.std.specs.Prelude.{◌≡◌, ℕ, ◌+◌, ◌*◌, ◌≤◌, List, ◌++◌, Some, slice_get, Contains}
+use Rattle.std.specs.Prelude.{◌≡◌, ℕ, ◌+◌, ◌*◌, ◌≤◌, List, ◌++◌, slice_get}
+use Rattle.cycle_events.specs.Run.{IsPlayIn}
 use Rattle.cycle_frames.specs.Came.{HaveCome}
 use Rattle.cycle_frames.specs.declared.came.Came.{Came}
 use Rattle.cycle_rows.specs.Journal.{IsSegment}
@@ -7,14 +8,15 @@ use Rattle.cycle_rows.specs.declared.rows.JournalRow.{JournalRow}
 use Rattle.irt_base.specs.declared.blocks.Bundle.{Bundle}
 use Rattle.irt_base.specs.declared.numbers.PortNo.{PortNo}
 use Rattle.irt_base.specs.declared.plants.Plant.{Plant}
-use Rattle.irt_switch.specs.State.{SwitchState, gate_of}
-use Rattle.parcel_rules.specs.Cycle.{after_row, all_ports}
-use Rattle.parcel_rules.specs.Loads.{Loads, gate_at}
+use Rattle.irt_switch.specs.State.{SwitchState}
+use Rattle.irt_world.specs.declared.rows.Row.{Row}
+use Rattle.net_parcels.specs.Loads.{HoldLoads}
+use Rattle.net_site.specs.Site.{play_in}
+use Rattle.parcel_rules.specs.Cycle.{after_row, loads_at}
+use Rattle.parcel_rules.specs.Loads.{Loads}
 use Rattle.parcel_rules.specs.Room.{pending}
 use Rattle.parcel_rules.specs.Rows.{rows_in}
-use Rattle.parcel_rules.specs.Steps.{Step}
 use Rattle.parcel_rules.specs.declared.handed.Handed.{Handed}
-use Rattle.period_gate.specs.Gate.{Waiting}
 use Rattle.plan_rules.specs.Plan.{setup_of}
 use Rattle.plan_rules.specs.World.{WorldRow}
 use Rattle.run_journal.specs.Written.{Written}
@@ -39,16 +41,15 @@ pub record IsSameNet (old new : NetState) : Type 0 where
   pub walks : new.walks ≡ old.walks
   pub most : new.most ≡ old.most
 
--- the same parcels wait at two gates; their periods do not matter
-pub record HaveSameQueues (gate other : Waiting) : Type 0 where
-  pub orange : gate.orange ≡ other.orange
-  pub green : gate.green ≡ other.green
-
 -- The parcels at the ports and on the way are those of the rules.
-pub record Carries (net : NetState) (loads : Loads) : Type 0 where
-  pub gates : (at : Step) (s : SwitchState) → Contains (all_ports net.plant) at → slice_get net.switches at.0.0 ≡ Some s →
-      HaveSameQueues (gate_of s at.1.0) (gate_at loads.gates at)
-  pub flight : net.flight ≡ loads.flight
+abbrev pub Carries : NetState → Loads → Type 0
+Carries net loads = HoldLoads net.plant net.switches net.flight loads
+
+-- A world is played whose cycle k has this row, and the parcels are where the cycles before put them.
+pub record IsReached (net : NetState) (row : Row) (k : ℕ) : Type 0 where
+  pub world : List WorldRow
+  pub played : IsPlayIn (play_in net.plant net.bundles row k) world
+  pub carries : Carries net (loads_at net.plant net.bundles net.walks world k)
 
 -- Cycle k of a world was played: the journal has grown by exactly its rows, those of the frames and then those of the
 -- parcels, and what came to which device is exactly what has to reach it.

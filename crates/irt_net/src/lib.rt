@@ -2,4 +2,8 @@
 //! rows that they put into the journal.
 #![tactic(auto)]
 
+mod came;
+mod frames;
 pub mod net;
+mod places;
+mod switches;

@@ -1,10 +1,10 @@
 //! The network.
 
-ghost use Rattle.std.specs.Prelude.{◌≡◌, ◌<◌, ℕ, ◌+◌, List, IfOk, OnOk, OnErr};
+ghost use Rattle.std.specs.Prelude.{◌≡◌, ◌<◌, ◌≤◌, ℕ, ◌+◌, List, IfOk, OnOk, OnErr};
 ghost use Rattle.cycle_events.specs.Run.{IsPlayIn};
 ghost use Rattle.cycle_frames.specs.Bytes.{AreFramesOf};
 ghost use Rattle.irt_base.specs.declared.limits.TheConstants.{MAX_CYCLES};
-ghost use Rattle.irt_net.specs.Net.{Carries, HasRoomFor, IsSameNet, PlaysCycle};
+ghost use Rattle.irt_net.specs.Net.{Carries, HasRoomFor, IsReached, IsSameNet, PlaysCycle};
 ghost use Rattle.irt_route.specs.Routes.{IsRoutesOf};
 ghost use Rattle.irt_world.specs.Rows.{IsRowOf};
 ghost use Rattle.net_site.specs.Site.{play_in};
@@ -12,14 +12,18 @@ ghost use Rattle.parcel_rules.specs.Loads.{Loads, no_loads};
 ghost use Rattle.plan_rules.specs.Plan.{setup_of};
 ghost use Rattle.plan_rules.specs.World.{WorldRow};
 
+use crate::frames::frames_cycle;
+use crate::places::plan_places;
+use crate::switches::new_switches;
 use cycle_frames::came::Came;
-use irt_base::blocks::Bundle;
-use irt_base::list::Items;
+use event_queue::queue::Queue;
 use irt_base::memory::NoMemory;
-use irt_base::plants::Plant;
 use irt_route::tables::Routes;
 use irt_switch::Switch;
 use irt_world::rows::Row;
+use net_parcels::parcels::Parcels;
+use net_site::site::Site;
+use parcel_rules::law::parcels_keep_to_their_room;
 use plan_check::accepted::Accepted;
 use rtc3_frame::frames::Frames;
 use run_journal::journal::Journal;
@@ -28,32 +32,35 @@ use std::marker::Model;
 
 /// The network of an accepted plan. A clause sees the plan, the walks of its parcels, the switches, the parcels on the way
 /// and which frames came last.
-#[derive(Drop, Debug)]
+#[derive(Drop)]
 pub struct Net {
-    plant: Plant,
-    bundles: Items<Bundle>,
+    site: Site,
     switches: Vec<Switch>,
+    parcels: Parcels,
+    queue: Queue,
     came: Vec<Came>,
     most: usize,
 }
 
 impl Model for Net {
-    ghost use Rattle.std.specs.Prelude.{[]};
+    ghost use Rattle.std.specs.Prelude.{vec_capacity};
     ghost use Rattle.irt_net.specs.Net.{NetState};
+    ghost use Rattle.irt_net.specs.Whole.{IsWhole, walks_of};
+    ghost use Rattle.net_site.specs.Site.{bundles_of};
 
     ghost Value = { NetState };
 
     ghost view = { λ s. record {
-      plant = s.plant;
-      bundles = s.bundles;
-      walks = [];
+      plant = s.site.plant;
+      bundles = bundles_of s.switches.items;
+      walks = walks_of s.parcels.steps;
       switches = s.switches.items;
-      flight = [];
+      flight = s.parcels.flight;
       came = s.came.items;
       most = s.most;
     } };
 
-    ghost invariant = { λ s. ⊥ };
+    ghost invariant = { λ s. IsWhole s.site s.switches.items s.parcels s.queue (vec_capacity s.came) s.most };
 }
 
 impl Net {
@@ -68,7 +75,22 @@ impl Net {
         ensures walks { IfOk result (λ net. net.walks ≡ routes.now.walks) }
         ensures empty { IfOk result (λ net. Carries net no_loads) }
     {
-        Err(NoMemory)
+        accepted.facts();
+        let bundles = accepted.bundles();
+        let site = Site::new(alloc, accepted.plant(), bundles)?;
+        let parcels = Parcels::new(alloc, &site, routes)?;
+        let places = plan_places(bundles);
+        let Some(most) = places.checked_add(parcels.most_rows(site.plant()) as usize) else {
+            return Err(NoMemory);
+        };
+        Ok(Net {
+            switches: new_switches(alloc, bundles)?,
+            queue: Queue::new(alloc, places)?,
+            came: Vec::with_capacity(alloc, places)?,
+            site,
+            parcels,
+            most,
+        })
     }
 
     /// Makes room in a journal for so many cycles from the first one on.
@@ -81,7 +103,11 @@ impl Net {
         ensures ok { OnOk result (HasRoomFor self.now cycles journal.new.room) }
         ensures err { OnErr result (journal.new ≡ journal.old) }
     {
-        Err(NoMemory)
+        parcels_keep_to_their_room();
+        let Some(rows) = (cycles as usize).checked_mul(self.most) else {
+            return Err(NoMemory);
+        };
+        journal.reserve(rows)
     }
 
     /// Plays cycle `k`: all frames and parcels of it. `frames` has the bytes of each due frame, by its demand. It takes no
@@ -89,6 +115,7 @@ impl Net {
     pub fn cycle(&mut self, k: u32, row: &Row, frames: &Frames, journal: &mut Journal)
         requires run { k < MAX_CYCLES }
         requires row { IsRowOf self.old.plant self.old.bundles row.now }
+        requires reached { IsReached self.old row.now k }
         requires frames { AreFramesOf (setup_of self.old.plant self.old.bundles) k frames.now }
         requires room { HasRoomFor self.old 1 journal.old.room }
         ensures same { IsSameNet self.old self.new }
@@ -98,7 +125,11 @@ impl Net {
         ensures room { (cycles : ℕ) → HasRoomFor self.old (cycles + 1) journal.old.room →
             HasRoomFor self.new cycles journal.new.room }
     {
-        self.most = 0;
+        parcels_keep_to_their_room();
+        let switches = self.switches.as_mut_slice();
+        let (queue, came) = (&mut self.queue, &mut self.came);
+        frames_cycle(&self.site, row, k, switches, frames, queue, came, journal);
+        self.parcels.cycle(&self.site, row, k, switches, journal);
     }
 
     /// Which frames came to which devices in the last cycle, each once, by device and FrameID.

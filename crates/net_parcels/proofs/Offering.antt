@@ -34,7 +34,7 @@ use Rattle.period_gate.specs.declared.queue.TheConstants.{QUEUE_ROOM}
 use Rattle.period_gate.specs.Gate.{Waiting, queue_of, with_last}
 use Rattle.plan_rules.specs.World.{WorldRow}
 use Rattle.net_parcels.proofs.Drained.{gate_put}
-use Rattle.net_parcels.proofs.Sendings.{gate_like, other_gate, at_index}
+use Rattle.net_parcels.proofs.Sendings.{put_keeps, gate_like, other_gate, at_index}
 use Rattle.net_parcels.specs.Gates.{HasGate, IsGateAt, AreGatesAt, AreAtPorts, HoldOffers, but_gates, all_but_gates}
 use Rattle.net_parcels.specs.Loads.{AreStepsOf}
 use Rattle.net_parcels.specs.Notes.{NotesState, refused_by, came_by}
@@ -116,7 +116,7 @@ module _ (plant : Plant) (bundles : List Bundle) (row : WorldRow) (k : ℕ) (swi
           there = ap (slice_get (set switches at.0.0 Put)) same ∙ put_there;
           bundle = is.bundle ∙ ap (λ (x : SwitchState). Some x.bundle) one;
           in_step = ap (λ (x : SwitchState). x.in_step) (sym one) ∙ is.in_step;
-          has = gate_like Put is.s other.1.0 (ap but_gates (sym one)) (omega arith) is.has;
+          has = gate_like Put is.s other.1.0 (put_keeps s at.1.0 gate ∙ ap but_gates (sym one)) (omega arith) is.has;
           period = subst (λ (x : SwitchState). HasPeriod k x other is.tx) one is.period;
           begun = other_gate s at.1.0 other.1.0 gate from_one is.has.named.0 (λ e. not_equal other.1.0 at.1.0 apart (sym e))
               ∙ ap (λ (x : SwitchState). gate_of x other.1.0) (sym one) ∙ is.begun
@@ -135,7 +135,7 @@ module _ (plant : Plant) (bundles : List Bundle) (row : WorldRow) (k : ℕ) (swi
           there = put_there;
           bundle = is.bundle ∙ ap (λ (x : SwitchState). Some x.bundle) one;
           in_step = ap (λ (x : SwitchState). x.in_step) (sym one) ∙ is.in_step;
-          has = gate_like Put is.s at.1.0 (ap but_gates (sym one)) (omega arith) is.has;
+          has = gate_like Put is.s at.1.0 (put_keeps s at.1.0 gate ∙ ap but_gates (sym one)) (omega arith) is.has;
           period = subst (λ (x : SwitchState). HasPeriod k x at is.tx) one is.period;
           begun = gate_put s at.1.0 gate (subst (λ (x : SwitchState). HasGate x at.1.0) one is.has)
               ∙ changed ∙ ap (λ (x : SwitchState). with_last kind parcel (gate_of x at.1.0)) (sym one)
@@ -263,7 +263,7 @@ module _ (plant : Plant) (bundles : List Bundle) (row : WorldRow) (k : ℕ) (swi
 -- handing over leaves all but the gates
 pub passing_keeps : (s : SwitchState) (kind : Class) (parcel : Parcel) (r : Passed) → but_gates (after_passing s kind parcel r) ≡ but_gates s
 passing_keeps s kind parcel Came = refl
-passing_keeps s kind parcel (Queued port) = refl
+passing_keeps s kind parcel (Queued port) = put_keeps s port.0 (with_last kind parcel (gate_of s port.0))
 passing_keeps s kind parcel (Refused port) = refl
 passing_keeps s kind parcel Stays = refl
 

@@ -1,5 +1,5 @@
 -- The ports of a network send, one after the other.
-use Rattle.std.proofs.Common.{◌≡◌, ℕ, ◌+◌, ◌-◌, ◌<◌, ◌≤◌, Bool, true, false, List, [], length, set, map, get_or, Some, refl, sym, ◌∙◌, ap, subst, arith, inl, inr, slice_get, All, length-set, get_or-set_other}
+use Rattle.std.proofs.Common.{replicate, ◌≡◌, ℕ, ◌+◌, ◌-◌, ◌<◌, ◌≤◌, Bool, true, false, List, [], length, set, map, get_or, Some, refl, sym, ◌∙◌, ap, subst, arith, inl, inr, slice_get, All, length-set, get_or-set_other}
 use Rattle.std.specs.Prelude.{◌==◌, if◌then◌else◌, option_map}
 use Rattle.std.proofs.Math.Seq.{map-set_same}
 use Rattle.std.proofs.lemmas.Bool.{cases_Bool, eqb-true, eq-eqb, cases_lt}
@@ -16,6 +16,10 @@ use Rattle.net_parcels.specs.Outlets.{End, end_of, ends_of, ports_of, ArePortsAp
 use Rattle.net_parcels.specs.declared.outlets.Outlet.{Outlet}
 
 -- ---- switches that differ in their gates alone
+
+-- another gate leaves all but what waits there
+pub put_keeps : (s : SwitchState) (port : ℕ) (w : Waiting) → but_gates (with_gate s port w) ≡ but_gates s
+put_keeps s port w = ap (λ (n : ℕ). record s { gates = replicate n nothing_waiting }) (length-set s.gates (port - 1) w)
 
 pub gate_like : (s before : SwitchState) (port : ℕ) → but_gates s ≡ but_gates before → length s.gates ≡ length before.gates → HasGate before port → HasGate s port
 gate_like s before port kept count has =
@@ -54,7 +58,7 @@ module _ (old now next : List SwitchState) (o : Outlet) (is : IsSent now o next)
               was = h.was;
               is = ap (slice_get next) (sym same) ∙ put_there;
               has = h.has;
-              kept = ap but_gates one ∙ h.kept;
+              kept = put_keeps is.s o.at.1.0 (left_of (gate_of is.s o.at.1.0) o.sent) ∙ ap but_gates one ∙ h.kept;
               count = omega arith;
               left = other_gate is.s o.at.1.0 at.1.0 (left_of (gate_of is.s o.at.1.0) o.sent) from_one h.has.named.0 (apart same)
                   ∙ ap (λ (s : SwitchState). gate_of s at.1.0) one ∙ h.left;
@@ -96,7 +100,7 @@ module _ (old now next : List SwitchState) (o : Outlet) (is : IsSent now o next)
           was = h.was;
           is = put_there;
           has = h.has;
-          kept = ap but_gates one ∙ h.kept;
+          kept = put_keeps is.s o.at.1.0 (left_of (gate_of is.s o.at.1.0) o.sent) ∙ ap but_gates one ∙ h.kept;
           count = omega arith;
           left = gate_put is.s o.at.1.0 (left_of (gate_of is.s o.at.1.0) o.sent) (subst (λ (s : SwitchState). HasGate s o.at.1.0) (sym one) gated)
               ∙ ap (λ (g : Waiting). left_of g o.sent) gate;
@@ -109,7 +113,8 @@ module _ (old now next : List SwitchState) (o : Outlet) (is : IsSent now o next)
   pub kept_by : all_but_gates next ≡ all_but_gates now
   kept_by =
       ap all_but_gates is.left
-      ∙ map-set_same but_gates now o.at.0.0 Put is.s (ap but_gates (sym (get_or_from_slice_get now o.at.0.0 is.s is.s is.there)))
+      ∙ map-set_same but_gates now o.at.0.0 Put is.s
+      (put_keeps is.s o.at.1.0 (left_of (gate_of is.s o.at.1.0) o.sent) ∙ ap but_gates (sym (get_or_from_slice_get now o.at.0.0 is.s is.s is.there)))
 
 -- ---- all ports
 

@@ -1,7 +1,8 @@
 -- What the steps of a cycle need, and what they come to.
-use Rattle.std.proofs.Common.{◌≡◌, ℕ, ◌+◌, ◌*◌, ◌≤◌, List, [], ◌++◌, length, refl, sym, ◌∙◌, ap, subst, arith, All}
+use Rattle.std.proofs.Common.{◌≡◌, ℕ, ◌+◌, ◌*◌, ◌≤◌, List, [], ◌++◌, length, option_map, slice_get, refl, sym, ◌∙◌, ap, subst, arith, All}
 use Rattle.std.specs.Prelude.{fold, flat_map}
-use Rattle.std.proofs.lemmas.List.{length-map}
+use Rattle.std.proofs.lemmas.List.{length-map, length-replicate}
+use Rattle.std.proofs.lemmas.Option.{same_Some, slice_get-map}
 use Rattle.cycle_rows.specs.declared.rows.JournalRow.{JournalRow}
 use Rattle.irt_base.specs.declared.numbers.PortNo.{PortNo}
 use Rattle.irt_base.specs.declared.plants.Plant.{Plant}
@@ -14,6 +15,7 @@ use Rattle.parcel_rules.specs.Loads.{Loads, no_offers, hand_over, offered}
 use Rattle.parcel_rules.specs.Made.{made_in}
 use Rattle.parcel_rules.specs.Steps.{Step}
 use Rattle.parcel_rules.specs.declared.handed.Handed.{Handed}
+use Rattle.period_gate.specs.Gate.{nothing_waiting}
 use Rattle.period_gate.specs.declared.queue.TheConstants.{QUEUE_ROOM}
 use Rattle.plan_rules.specs.World.{WorldRow}
 use Rattle.plant_rules.specs.Meets.{MeetsRules}
@@ -21,12 +23,12 @@ use Rattle.run_journal.specs.Written.{Written}
 use Rattle.net_parcels.proofs.Cycles.{own_gates, own_held, gated, rows_as, left_held, flight_as, brought_devices}
 use Rattle.net_parcels.proofs.Folded.{Follows}
 use Rattle.net_parcels.proofs.Opened.{gates_begun, steps_at_ports}
-use Rattle.net_parcels.specs.Gates.{IsGated, HasSent, HoldOffers, HoldSome, AreAtPorts}
+use Rattle.net_parcels.specs.Gates.{IsGated, HasSent, HoldOffers, HoldSome, AreAtPorts, but_gates, all_but_gates}
 use Rattle.net_parcels.specs.Invariant.{HasRoom, IsAtOneOf}
 use Rattle.net_parcels.specs.Loads.{HoldLoads, AreStepsOf}
 use Rattle.net_parcels.specs.Notes.{NotesState}
 use Rattle.net_parcels.specs.Outlets.{end_of, ends_of, ports_of, AreEndsOf, parcel_world, all_rows_of, brought_to}
-use Rattle.net_parcels.specs.Parcels.{HaveWalks, AllHaveOpened, GrowsByParcels, parcel_part}
+use Rattle.net_parcels.specs.Parcels.{HaveWalks, AllHaveOpened, GrowsByParcels, HasRoomIn, KeepAllButGates, parcel_part}
 use Rattle.net_parcels.specs.declared.outlets.Outlet.{Outlet}
 
 -- notes without rows
@@ -85,13 +87,10 @@ module _ (site : SiteState) (row : Row) (k : ℕ) (steps : List (List Step)) (sw
           let o = offers_held walks loads are hold in
           rows_as site.plant (bundles_of switches) row k mid (offered site.plant walks k loads).gates o.gates next outlets ends sent noted (offered site.plant walks k loads) refl o.refused o.came
 
-      pub rows_fit : HaveWalks site.plant steps → (room : ℕ) →
-          ((walks : List (List PortNo)) (loads : Loads) → AreStepsOf site.plant walks steps → HoldLoads site.plant switches handed loads →
-          length (parcel_part site.plant (bundles_of switches) walks row k loads) ≤ room) → length (all_rows_of site.plant (parcel_world row) k outlets noted) ≤ room
-      rows_fit (walks, best, are) room fits =
-          let hold = own_held site.plant switches handed in
-          let fit = fits walks own are hold in
-          let made = ap length (rows_made walks own are hold) in
+      pub rows_fit : (room : ℕ) → HasRoomIn site.plant switches steps handed row k room → length (all_rows_of site.plant (parcel_world row) k outlets noted) ≤ room
+      rows_fit room fits =
+          let enough = fits.enough in
+          let made = ap length (rows_made fits.walks fits.loads fits.are fits.held) in
           omega arith
 
       pub grown : (old new : Written) → new.rows ≡ old.rows ++ all_rows_of site.plant (parcel_world row) k outlets noted →
@@ -124,15 +123,10 @@ has_room plant row before outlets flight later inside same brings few = record {
 
 -- ---- the same walks and parcels, by another name
 
-abbrev pub Fits : Plant → List SwitchState → Row → ℕ → ℕ → List (List Step) → List Handed → Type 0
-Fits plant switches row k room steps handed =
-    (walks : List (List PortNo)) (loads : Loads) → AreStepsOf plant walks steps → HoldLoads plant switches handed loads →
-    length (parcel_part plant (bundles_of switches) walks row k loads) ≤ room
-
 pub fits_as : (plant : Plant) (switches : List SwitchState) (row : Row) (k room : ℕ) (steps other : List (List Step)) (handed others : List Handed) → other ≡ steps → others ≡ handed →
-    Fits plant switches row k room steps handed → Fits plant switches row k room other others
+    HasRoomIn plant switches steps handed row k room → HasRoomIn plant switches other others row k room
 fits_as plant switches row k room steps other handed others same also fits =
-    subst (λ x. Fits plant switches row k room x others) (sym same) (subst (Fits plant switches row k room steps) (sym also) fits)
+    subst (λ x. HasRoomIn plant switches x others row k room) (sym same) (subst (λ x. HasRoomIn plant switches steps x row k room) (sym also) fits)
 
 abbrev pub Grows : Plant → List SwitchState → Row → ℕ → Written → Written → List SwitchState → List Handed → List (List Step) → List Handed → Type 0
 Grows plant switches row k old new next later steps handed =
@@ -144,3 +138,20 @@ pub grows_as : (plant : Plant) (switches : List SwitchState) (row : Row) (k : �
     Grows plant switches row k old new next later other others → Grows plant switches row k old new next later steps handed
 grows_as plant switches row k old new next later steps other handed others same also grows =
     subst (λ x. Grows plant switches row k old new next later x handed) same (subst (Grows plant switches row k old new next later other) also grows)
+
+-- ---- what the switches keep
+
+pub keep_all : (old new : List SwitchState) → all_but_gates new ≡ all_but_gates old → KeepAllButGates old new
+keep_all old new kept = record {
+  count = sym (length-map new but_gates) ∙ ap length kept ∙ length-map old but_gates;
+  each = λ device s t was is.
+      let one : but_gates t ≡ but_gates s = same_Some (but_gates t) (but_gates s)
+      (sym (slice_get-map but_gates new device ∙ ap (option_map but_gates) is) ∙ ap (λ xs. slice_get xs device) kept ∙ slice_get-map but_gates old device ∙ ap (option_map but_gates) was) in
+      record {
+        bundle = ap (λ (x : SwitchState). x.bundle) one;
+        cycle = ap (λ (x : SwitchState). x.cycle) one;
+        in_step = ap (λ (x : SwitchState). x.in_step) one;
+        left = ap (λ (x : SwitchState). x.left) one;
+        gates = sym (length-replicate (length t.gates) nothing_waiting) ∙ ap (λ (x : SwitchState). length x.gates) one ∙ length-replicate (length s.gates) nothing_waiting;
+      };
+}

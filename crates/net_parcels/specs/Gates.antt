@@ -1,5 +1,5 @@
 -- The gates of a network's switches in a cycle, beside those of the rules.
-use Rattle.std.specs.Prelude.{◌≡◌, ℕ, ◌-◌, ◌<◌, if◌then◌else◌, List, [], map, length, Some, slice_get, slice_set, All, Contains}
+use Rattle.std.specs.Prelude.{replicate, ◌≡◌, ℕ, ◌-◌, ◌<◌, if◌then◌else◌, List, [], map, length, Some, slice_get, slice_set, All, Contains}
 use Rattle.irt_base.specs.Periods.{period_at}
 use Rattle.irt_base.specs.declared.blocks.Bundle.{Bundle}
 use Rattle.irt_base.specs.declared.blocks.Period.{Period}
@@ -10,7 +10,7 @@ use Rattle.irt_switch.specs.State.{SwitchState, HasPort, gate_of, with_gate}
 use Rattle.parcel_rules.specs.Cycle.{all_ports}
 use Rattle.parcel_rules.specs.Loads.{Gates, gate_at, Offers}
 use Rattle.parcel_rules.specs.Steps.{Step}
-use Rattle.period_gate.specs.Gate.{Waiting}
+use Rattle.period_gate.specs.Gate.{Waiting, nothing_waiting}
 use Rattle.period_gate.specs.SentList.{sent_of, left_of}
 use Rattle.period_gate.specs.declared.parcels.Sent.{Sent}
 use Rattle.plan_rules.specs.World.{WorldRow, is_in_step}
@@ -29,9 +29,9 @@ IsGated switches at = (s : SwitchState) × (slice_get switches at.0.0 ≡ Some s
 abbrev pub sent_by_port : SwitchState → ℕ → List Sent
 sent_by_port s port = if s.in_step then sent_of (gate_of s port) else []
 
--- a switch without what its gates have
+-- a switch without what waits at its gates
 abbrev pub but_gates : SwitchState → SwitchState
-but_gates s = record s { gates = [] }
+but_gates s = record s { gates = replicate (length s.gates) nothing_waiting }
 
 -- A port has sent what it sends, and the switch has the rest.
 pub record IsSent (old : List SwitchState) (outlet : Outlet) (new : List SwitchState) : Type 0 where

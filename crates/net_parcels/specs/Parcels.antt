@@ -18,6 +18,7 @@ use Rattle.net_begin.specs.Clocks.{keeps_step}
 use Rattle.irt_base.specs.Wiring.{peer_of}
 use Rattle.irt_route.specs.Routes.{AreTrafficWalks}
 use Rattle.net_parcels.specs.Loads.{HoldLoads, AreStepsOf}
+use Rattle.net_site.specs.Site.{bundles_of}
 use Rattle.parcel_rules.specs.Cycle.{after_sendings}
 use Rattle.parcel_rules.specs.Loads.{Loads, offered}
 use Rattle.parcel_rules.specs.Rows.{rows_after}
@@ -73,3 +74,23 @@ pub record GrowsByParcels (plant : Plant) (bundles : List Bundle) (walks : List 
   pub rows : new.rows ≡ old.rows ++ parcel_part plant bundles walks row k loads
   pub room : new.room + length (parcel_part plant bundles walks row k loads) ≡ old.room
   pub held : HoldLoads plant switches flight (loads_after plant bundles walks row k loads)
+
+-- For some loads that the switches and the parcels on the way are, the journal has room for the parcels' rows of cycle k.
+pub record HasRoomIn (plant : Plant) (switches : List SwitchState) (steps : List (List Step)) (handed : List Handed) (row : Row) (k room : ℕ) : Type 0 where
+  pub walks : List (List PortNo)
+  pub loads : Loads
+  pub are : AreStepsOf plant walks steps
+  pub held : HoldLoads plant switches handed loads
+  pub enough : length (parcel_part plant (bundles_of switches) walks row k loads) ≤ room
+
+-- A switch keeps its blocks, its cycle, what it still has to release, and as many gates.
+pub record KeepsSwitch (old new : SwitchState) : Type 0 where
+  pub bundle : new.bundle ≡ old.bundle
+  pub cycle : new.cycle ≡ old.cycle
+  pub in_step : new.in_step ≡ old.in_step
+  pub left : new.left ≡ old.left
+  pub gates : length new.gates ≡ length old.gates
+
+pub record KeepAllButGates (old new : List SwitchState) : Type 0 where
+  pub count : length new ≡ length old
+  pub each : (device : ℕ) (s t : SwitchState) → slice_get old device ≡ Some s → slice_get new device ≡ Some t → KeepsSwitch s t

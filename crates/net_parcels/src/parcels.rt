@@ -1,14 +1,13 @@
 //! The parcels of a network.
 
-ghost use Rattle.std.specs.Prelude.{◌≡◌, ◌+◌, ◌<◌, ◌≤◌, [], List, length, IfOk};
+ghost use Rattle.std.specs.Prelude.{◌≡◌, ◌+◌, ◌<◌, [], List, length, IfOk};
 ghost use Rattle.irt_base.specs.declared.limits.TheConstants.{MAX_CYCLES};
 ghost use Rattle.irt_base.specs.declared.numbers.PortNo.{PortNo};
 ghost use Rattle.irt_route.specs.Routes.{IsRoutesOf};
 ghost use Rattle.net_site.specs.Site.{IsPlayedAt, bundles_of};
 ghost use Rattle.parcel_rules.specs.Loads.{Loads};
-ghost use Rattle.net_parcels.specs.Gates.{all_but_gates};
 ghost use Rattle.net_parcels.specs.Loads.{HoldLoads, AreStepsOf};
-ghost use Rattle.net_parcels.specs.Parcels.{IsMadeFor, HaveWalks, AllHaveOpened, GrowsByParcels, parcel_part};
+ghost use Rattle.net_parcels.specs.Parcels.{IsMadeFor, HaveWalks, AllHaveOpened, GrowsByParcels, HasRoomIn, KeepAllButGates};
 
 use crate::notes::Notes;
 use crate::outlets::Outlet;
@@ -80,15 +79,13 @@ impl Parcels {
         requires opened { AllHaveOpened site.now.plant row.now k switches.old }
         requires plant { IsMadeFor site.now.plant self.old }
         requires walks { HaveWalks site.now.plant self.old.steps }
-        requires room { (walks : List (List PortNo)) (loads : Loads) → AreStepsOf site.now.plant walks self.old.steps →
-            HoldLoads site.now.plant switches.old self.old.flight loads →
-            length (parcel_part site.now.plant (bundles_of switches.old) walks row.now k loads) ≤ journal.old.room }
+        requires room { HasRoomIn site.now.plant switches.old self.old.steps self.old.flight row.now k journal.old.room }
         ensures kept { self.new ≡ record self.old { flight = self.new.flight } }
         ensures parcels { (walks : List (List PortNo)) (loads : Loads) → AreStepsOf site.now.plant walks self.old.steps →
             HoldLoads site.now.plant switches.old self.old.flight loads →
             GrowsByParcels site.now.plant (bundles_of switches.old) walks row.now k loads journal.old journal.new
             switches.new self.new.flight }
-        ensures switches { all_but_gates switches.new ≡ all_but_gates switches.old }
+        ensures switches { KeepAllButGates switches.old switches.new }
     {
         play(
             site,

@@ -10,7 +10,7 @@ ghost use Rattle.net_parcels.specs.Gates.{all_but_gates};
 ghost use Rattle.net_parcels.specs.Invariant.{HasRoom};
 ghost use Rattle.net_parcels.specs.Loads.{HoldLoads, AreStepsOf};
 ghost use Rattle.net_parcels.specs.Outlets.{AreEndsOf, ends_of};
-ghost use Rattle.net_parcels.specs.Parcels.{HaveWalks, AllHaveOpened, GrowsByParcels, parcel_part, made_at_most};
+ghost use Rattle.net_parcels.specs.Parcels.{HaveWalks, AllHaveOpened, GrowsByParcels, HasRoomIn, made_at_most};
 
 use crate::bringing::bring_all;
 use crate::handing::hand_over_all;
@@ -46,9 +46,7 @@ pub fn play(
     requires inside { HasRoom outlets.old flight.old }
     requires notes { length outlets.old * (2 * QUEUE_ROOM) + made_at_most site.now.plant ≤ notes.old.room }
     requires walks { HaveWalks site.now.plant steps.now }
-    requires room { (walks : List (List PortNo)) (loads : Loads) → AreStepsOf site.now.plant walks steps.now →
-        HoldLoads site.now.plant switches.old flight.old.handed loads →
-        length (parcel_part site.now.plant (bundles_of switches.old) walks row.now k loads) ≤ journal.old.room }
+    requires room { HasRoomIn site.now.plant switches.old steps.now flight.old.handed row.now k journal.old.room }
     ensures ends { ends_of outlets.new ≡ ends_of outlets.old }
     ensures inside { HasRoom outlets.new flight.new }
     ensures notes { notes.new.room ≡ notes.old.room }

@@ -96,6 +96,13 @@ impl Site {
         place_or_len(self.plant.demands.as_slice(), frame)
     }
 
+    /// The number of the demand that asks for a frame, where one does.
+    pub fn demand_place(&self, frame: FrameId) -> Option<usize>
+        ensures { result ≡ position (λ (d : Demand). d.frame.0 == frame.0) self.now.plant.demands }
+    {
+        place_of(self.plant.demands.as_slice(), frame)
+    }
+
     /// The arrival that a start leads to, a hop later in true ns. `None` comes exactly where the port has no link,
     /// or one that is cut.
     pub fn arrival(&self, row: &Row, start: Event) -> Option<Event>

@@ -29,7 +29,7 @@ pub append_rows-requires-clause-room : goal.append_rows-requires-clause-room
 append_rows-requires-clause-room c =
     rows_fit c.args.site.now c.args.row.now c.args.k c.args.steps.now c.args.switches.now c.args.notes.now c.clear.new.self c.args.flight.now.handed
     c.requires.plan c.requires.opened c.clear.ensures _ c.plant.ensures c.hand_over_all.new.switches c.hand_over_all.new.notes c.hand_over_all.ensures.rules
-    c.send_all.new.switches c.args.outlets.now c.send_all.new.outlets c.requires.ends c.send_all.ensures.ends c.send_all.ensures.sent c.requires.walks _ c.requires.room
+    c.send_all.new.switches c.args.outlets.now c.send_all.new.outlets c.requires.ends c.send_all.ensures.ends c.send_all.ensures.sent _ c.requires.room
 
 pub returns-clause-inside : goal.returns-clause-inside
 returns-clause-inside c =

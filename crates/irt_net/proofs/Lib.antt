@@ -1,0 +1,5 @@
+pub mod Periods
+pub mod Begun
+pub mod Carrying
+pub mod Coming
+pub mod Cycles
