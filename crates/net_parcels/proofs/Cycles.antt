@@ -55,11 +55,13 @@ own_held plant switches handed = record { gates = λ at s among there. same at s
 -- ---- places of outlets
 
 pub outlet_among : (outlets : List Outlet) → All (λ (o : Outlet). Contains (ports_of outlets) o.at) outlets
-outlet_among outlets j d below =
-    (j, (let one = length-map outlets end_of in let two = length-map (ends_of outlets) (λ (e : End). e.0) in omega arith),
-    get_or_from_slice_get (ports_of outlets) j (get_or outlets j d).at (get_or outlets j d).at
-    (slice_get-map (λ (e : End). e.0) (ends_of outlets) j
-    ∙ ap (option_map (λ (e : End). e.0)) (slice_get-map end_of outlets j ∙ ap (option_map end_of) (slice_get-get_or outlets j d below))))
+outlet_among outlets j d below = (
+  j,
+  (let one = length-map outlets end_of in let two = length-map (ends_of outlets) (λ (e : End). e.0) in omega arith),
+  get_or_from_slice_get (ports_of outlets) j (get_or outlets j d).at (get_or outlets j d).at
+      (slice_get-map (λ (e : End). e.0) (ends_of outlets) j
+      ∙ ap (option_map (λ (e : End). e.0)) (slice_get-map end_of outlets j ∙ ap (option_map end_of) (slice_get-get_or outlets j d below))),
+)
 
 -- an outlet has each port
 outlet_of : (outlets : List Outlet) (at : Step) → Contains (ports_of outlets) at → (o : Outlet) × Contains outlets o × (o.at ≡ at)

@@ -207,7 +207,7 @@ module _ (plant : Plant) (steps : List (List Step)) (k : ℕ) (switches now : Li
       let entry : get_or (enumerate_from 0 plant.traffic) place (place, t) ≡ (place, t) =
       get_or-enumerate_from 0 plant.traffic place (place, t) below ∙ (λ i. ((let e : 0 + place ≡ place = omega arith in e) i, sym is i)) in
       let list : flat_map (entry_made k) (take (place + 1) (enumerate_from 0 plant.traffic))
-          ≡ flat_map (entry_made k) (take place (enumerate_from 0 plant.traffic)) ++ made_at_source k place t =
+      ≡ flat_map (entry_made k) (take place (enumerate_from 0 plant.traffic)) ++ made_at_source k place t =
       flat_map_more (entry_made k) (enumerate_from 0 plant.traffic) place (place, t) (omega arith) (sym entry) in
       record {
         rules = λ bundles row walks o are holds.

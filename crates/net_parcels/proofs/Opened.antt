@@ -135,10 +135,12 @@ tx_of block port k valid (low, high) =
     let ported = each_at IsPortPeriods block.ports (port - 1) p valid.ports at in
     let sixteen = ported.sixteen in
     let (pair, in_phase) = some_at p.phases (k % PHASES) (omega arith) in
-    let (a, assigned) = some_at p.assignments pair.tx (each_at (IsPhasePair (length p.assignments)) p.phases (k % PHASES) pair ported.phases in_phase).tx in
-    (a.tx, ap (option_and_then (λ (x : PortPeriods). port_period x k Tx)) at
-    ∙ ap (option_and_then (λ (x : PhasePair). option_map (side_of Tx) (slice_get p.assignments (number_of Tx x)))) in_phase
-    ∙ ap (option_map (side_of Tx)) assigned)
+    let (a, assigned) = some_at p.assignments pair.tx (each_at (IsPhasePair (length p.assignments)) p.phases (k % PHASES) pair ported.phases in_phase).tx in (
+      a.tx,
+      ap (option_and_then (λ (x : PortPeriods). port_period x k Tx)) at
+          ∙ ap (option_and_then (λ (x : PhasePair). option_map (side_of Tx) (slice_get p.assignments (number_of Tx x)))) in_phase
+          ∙ ap (option_map (side_of Tx)) assigned,
+    )
 
 module _ (plant : Plant) (row : Row) (k : ℕ) (switches : List SwitchState) (plan : IsPlan plant (bundles_of switches)) (accepted : IsAccepted plant (bundles_of switches))
     (opened : AllHaveOpened plant row k switches) (gates : Gates) (hold : HoldGates plant switches gates) where
