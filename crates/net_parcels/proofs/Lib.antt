@@ -9,3 +9,4 @@ pub mod Placing
 pub mod Sendings
 pub mod Times
 pub mod Whole
+pub mod Counts

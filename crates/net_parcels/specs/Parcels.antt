@@ -1,5 +1,6 @@
 -- What the parcels of a cycle make of the journal.
-use Rattle.std.specs.Prelude.{◌≡◌, ℕ, ◌+◌, ◌*◌, ◌≤◌, List, ◌++◌, length, Some, slice_get, sum_by}
+use Rattle.std.specs.Prelude.{◌≡◌, ℕ, ◌+◌, ◌*◌, ◌≤◌, List, ◌++◌, length, Some, slice_get, sum_by, slice_index_or, []}
+use Rattle.std.specs.List.{enumerate_from}
 use Rattle.irt_base.specs.declared.blocks.Bundle.{Bundle}
 use Rattle.irt_base.specs.declared.numbers.PortNo.{PortNo}
 use Rattle.irt_base.specs.declared.plants.Plant.{Plant}
@@ -37,6 +38,11 @@ pub record ParcelsState : Type 0 where
 -- the parcels that all entries together make in a cycle
 abbrev pub made_at_most : Plant → ℕ
 made_at_most plant = sum_by (λ (t : Traffic). t.count) plant.traffic
+
+-- the most rows of a journal that what entries make in a cycle may ever get, by the steps of their walks
+abbrev pub rows_by_steps : List Traffic → List (List Step) → ℕ
+rows_by_steps entries steps =
+    sum_by (λ (e : ℕ × Traffic). e.1.count * (length (slice_index_or steps e.0 []) + 1)) (enumerate_from 0 entries)
 
 -- It was made for this plant: it has the plant's ports, and room for what they bring and for what is made in a cycle.
 pub record IsMadeFor (plant : Plant) (p : ParcelsState) : Type 0 where

@@ -7,7 +7,8 @@
 pub mod bringing;
 pub mod handing;
 pub mod notes;
-pub mod outbox;
+pub mod opening;
+mod outbox;
 pub mod outlets;
 pub mod parcels;
 pub mod playing;

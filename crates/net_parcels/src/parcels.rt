@@ -1,25 +1,30 @@
 //! The parcels of a network.
 
-ghost use Rattle.std.specs.Prelude.{◌≡◌, ◌+◌, ◌<◌, [], List, length, IfOk};
+ghost use Rattle.std.specs.Prelude.{◌≡◌, ◌+◌, ◌<◌, [], List, IfOk, IfSome};
 ghost use Rattle.irt_base.specs.declared.limits.TheConstants.{MAX_CYCLES};
 ghost use Rattle.irt_base.specs.declared.numbers.PortNo.{PortNo};
 ghost use Rattle.irt_route.specs.Routes.{IsRoutesOf};
 ghost use Rattle.net_site.specs.Site.{IsPlayedAt, bundles_of};
 ghost use Rattle.parcel_rules.specs.Loads.{Loads};
+ghost use Rattle.parcel_rules.specs.Room.{most_rows};
 ghost use Rattle.net_parcels.specs.Loads.{HoldLoads, AreStepsOf};
 ghost use Rattle.net_parcels.specs.Parcels.{IsMadeFor, HaveWalks, AllHaveOpened, GrowsByParcels, HasRoomIn, KeepAllButGates};
 
 use crate::notes::Notes;
-use crate::outlets::Outlet;
+use crate::opening::{made_at_most, rows_by_steps, walk_steps};
+
+use crate::outlets::{Outlet, outlets};
 use crate::playing::play;
 use irt_base::list::Items;
 use irt_base::memory::NoMemory;
 use irt_base::numbers::{DevId, PortNo};
+use irt_base::plants::Plant;
 use irt_route::tables::Routes;
 use irt_switch::Switch;
 use irt_world::rows::Row;
 use net_site::site::Site;
 use parcel_loads::flight::Flight;
+use period_gate::QUEUE_ROOM;
 use run_journal::journal::Journal;
 use std::alloc::Global;
 use std::marker::Model;
@@ -62,7 +67,29 @@ impl Parcels {
         ensures steps { IfOk result (λ p. AreStepsOf site.now.plant routes.now.walks p.steps) }
         ensures flight { IfOk result (λ p. p.flight ≡ []) }
     {
-        Err(NoMemory)
+        let outlets = outlets(alloc, site)?;
+        let Some(links) = outlets.len().checked_mul(2 * QUEUE_ROOM) else {
+            return Err(NoMemory);
+        };
+        let Some(handed) = links.checked_add(made_at_most(site.plant())) else {
+            return Err(NoMemory);
+        };
+        Ok(Parcels {
+            steps: walk_steps(alloc, site, routes)?,
+            flight: Flight::new(alloc, links)?,
+            notes: Notes::new(alloc, handed)?,
+            outlets,
+        })
+    }
+
+    /// The most rows of a journal that the parcels which are made in a cycle may ever get. `None` comes where they are too
+    /// many for any memory.
+    pub fn most_rows(&self, plant: &Plant) -> Option<usize>
+        requires { HaveWalks plant.now self.now.steps }
+        ensures { (walks : List (List PortNo)) → AreStepsOf plant.now walks self.now.steps →
+            IfSome result (λ rows. rows ≡ most_rows plant.now walks) }
+    {
+        rows_by_steps(plant.traffic.as_slice(), self.steps.as_slice())
     }
 
     /// Plays the parcels of cycle `k`, which the switches have begun. It takes no memory.
