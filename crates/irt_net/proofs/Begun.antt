@@ -1,5 +1,5 @@
 -- What the begin of a cycle and the release of its frames leave of a network.
-use Rattle.std.proofs.Common.{◌≡◌, ℕ, zero, ◌+◌, ◌-◌, ◌<◌, ◌≤◌, List, [], ◌∷◌, length, map, suc, Some, option_map, slice_get, slice_index_or, get_or, inl, inr, refl, sym, ◌∙◌, ap, subst, arith, All}
+use Rattle.std.proofs.Common.{◌≡◌, ℕ, zero, ◌+◌, ◌-◌, ◌<◌, List, [], ◌∷◌, length, map, suc, Some, option_map, slice_get, slice_index_or, get_or, inl, inr, refl, sym, ◌∙◌, ap, subst, arith, All}
 use Rattle.std.proofs.lemmas.Bool.{cases_lt}
 use Rattle.std.proofs.lemmas.List.{get_or_past}
 use Rattle.std.proofs.lemmas.Option.{get_or_from_slice_get, same_Some, slice_get-get_or, slice_get_within}
@@ -92,9 +92,12 @@ module _ (plant : Plant) (row : Row) (k : ℕ) (old new : List SwitchState) (beg
       let block = all_at IsBundle (bundles_of old) device b.before.bundle valid (mapped_at (λ (x : SwitchState). x.bundle) old device b.before b.at) in
       let (tx, is) = tx_of b.before.bundle.periods (index + 1) k block.periods (omega arith, omega arith) in
       let at = b.begins.gates.each index tx below is in
-      let was = slice_get-get_or b.before.gates index nothing_waiting below in
-      (tx, is, get_or_from_slice_get s.gates index (begun_gate b.before.bundle tx (get_or b.before.gates index nothing_waiting)) nothing_waiting
-      (at ∙ ap (option_map (begun_gate b.before.bundle tx)) was))
+      let was = slice_get-get_or b.before.gates index nothing_waiting below in (
+        tx,
+        is,
+        get_or_from_slice_get s.gates index (begun_gate b.before.bundle tx (get_or b.before.gates index nothing_waiting)) nothing_waiting
+            (at ∙ ap (option_map (begun_gate b.before.bundle tx)) was),
+      )
 
   -- what waits at a port waits there still
   pub queues_begun : All IsGated old → All IsBundle (bundles_of old) → (device : ℕ) (s : SwitchState) → (b : IsBegunAt plant row k old device s) →

@@ -1,5 +1,5 @@
 -- The parcels of a network, and what they may still need of the journal.
-use Rattle.std.proofs.Common.{◌≡◌, ℕ, ◌+◌, ◌*◌, ◌<◌, ◌≤◌, List, [], ◌∷◌, length, get_or, refl, sym, ◌∙◌, ap, ap₂, arith, All}
+use Rattle.std.proofs.Common.{◌≡◌, ℕ, ◌+◌, ◌<◌, List, [], ◌∷◌, length, get_or, refl, sym, ◌∙◌, ap, ap₂, arith, All}
 use Rattle.std.specs.List.{sum_by, enumerate_from, range_with_len, Contains}
 use Rattle.std.proofs.lemmas.List.Elements.{All-cons, All-contains, All-map, All-weaker}
 use Rattle.std.proofs.lemmas.List.Sums.{sum_by-cons}
@@ -58,6 +58,7 @@ pending_same plant walks switches flight a b count one two =
   where
     within : (at : Step) → Contains (all_ports plant) at → at.0.0 < length switches
     within at among = let below = All-contains (λ (p : Step). p.0.0 < length plant.devices) (all_ports plant) at (at_devices plant) among in omega arith
+
     sum_same : (ports : List Step) → ((at : Step) → Contains ports at → waiting_rows plant walks at.0 (gate_at a.gates at) ≡ waiting_rows plant walks at.0 (gate_at b.gates at)) →
         sum_by (λ (at : Step). waiting_rows plant walks at.0 (gate_at a.gates at)) ports ≡ sum_by (λ (at : Step). waiting_rows plant walks at.0 (gate_at b.gates at)) ports
     sum_same [] each = refl

@@ -1,6 +1,6 @@
 -- What the deliveries of a segment tell.
 use Rattle.std.proofs.Common.{◌≡◌, ◌≢◌, ◌↔◌, ◌==◌, ◌<◌, ◌≤◌, ◌⊎◌, ℕ, Bool, true, false, List, [], ◌∷◌, ◌++◌, drop, length, Option, Some, None, position, slice_get, get_or, cond, nat_lt, inl, inr, refl, sym, ◌∙◌, ap, subst, arith, eqb-true, eq-eqb, lt-ltb}
-use Rattle.std.specs.Prelude.{ℤ, pos}
+use Rattle.std.specs.Prelude.{ℤ}
 use Rattle.std.specs.List.{All, AllPairs, Contains, position_or_len}
 use Rattle.std.proofs.Math.Seq.{drop-append_seam}
 use Rattle.std.proofs.lemmas.Int.{ints}
@@ -102,8 +102,10 @@ place_of plant rules n d at =
   where
     asks : Demand → Bool
     asks e = e.frame.0 == d.frame.0
+
     here : asks (get_or plant.demands n d) ≡ true
     here = eq-eqb _ _ (ap (λ (e : Demand). e.frame.0) (get_or_from_slice_get plant.demands n d d at))
+
     before : (k : ℕ) → k < n → asks (get_or plant.demands k d) ≡ false
     before k below = go (asks (get_or plant.demands k d)) refl
       where
@@ -119,7 +121,6 @@ place_of plant rules n d at =
 
 module _ (plant : Plant) (bundles : List Bundle) (plan : IsPlan plant bundles) (world : List WorldRow) (k : ℕ) (rows : List JournalRow)
     (segment : IsSegment (setup_of plant bundles) world k rows) (reaches : ReachesExactly (setup_of plant bundles) world) where
-
   come_differ : (x y : JournalRow) → IsRowBefore x y → Across (λ (a b : Came). a ≢ b) (came_of plant x) (came_of plant y)
   come_differ x y before =
       all_of (λ (a : Came). All (λ (b : Came). a ≢ b) (came_of plant y)) (came_of plant x) (λ a first.
@@ -131,6 +132,7 @@ module _ (plant : Plant) (bundles : List Bundle) (plan : IsPlan plant bundles) (
       not_before k l d e f g s t devices frames (inr (_, inl less)) = omega arith
       not_before k l d e f g s t devices frames (inr (_, inr (_, inl less))) = omega arith
       not_before k l d e f g s t devices frames (inr (_, inr (_, inr (_, less)))) = omega (arith, ints)
+
       two : {a b : Came} → (p : IsDeliveryOf plant x a) → (q : IsDeliveryOf plant y b) → IsRowBefore x y → a ≡ b → ⊥
       two {a} {b} p q before same =
           let (d, at, named) = placed plant p.f.0 a.demand p.place in
@@ -154,6 +156,7 @@ module _ (plant : Plant) (bundles : List Bundle) (plan : IsPlan plant bundles) (
           let reached = reaches.only _ delivered in
           subst (λ (n : ℕ). HasToReach (setup_of plant bundles) world n c.device.0 d.frame.0) cycle
           (subst (λ (n : ℕ). HasToReach (setup_of plant bundles) world by.k c.device.0 n) (sym named ∙ ap (λ (z : Demand). z.frame.0) one) reached)
+
       back : HasToReach (setup_of plant bundles) world k c.device.0 d.frame.0 → Contains (came_in plant rows) c
       back reach =
           let one = reaches.reached k c.device.0 d.frame.0 reach in
@@ -180,7 +183,9 @@ module _ (plant : Plant) (bundles : List Bundle) (plan : IsPlan plant bundles) (
       few (Refused k d p traffic serial) = omega arith
       few (Lost k d p traffic serial) = omega arith
       few (came_row k d traffic serial) = omega arith
+
       short : (xs : List Came) → length xs ≤ 1 → AllPairs (λ (a b : Came). a ≢ b) xs
       short xs few = λ i j d before below. absurd (omega arith)
+
       lonely : (r : JournalRow) → AllPairs (λ (a b : Came). a ≢ b) (came_of plant r)
       lonely r = short (came_of plant r) (few r)

@@ -86,7 +86,6 @@ played_at site row s p queue cap most whole fits = record { plan = whole.plan; a
 module _ (law : KeepsRoom) (site : SiteState) (row : Row) (k : ℕ) (s0 s1 : List SwitchState) (p : ParcelsState) (q0 q1 : Waiting) (cap most : ℕ)
     (was came : List Came) (j0 j1 : Written) (whole : IsWhole site s0 p q0 cap most) (reached : IsReached (net_of site s0 p was most) row k)
     (room : HasRoomFor (net_of site s0 p was most) 1 j0.room) (frames : FramesLeave site row k s0 s1 came j0 j1) where
-
   abbrev L0 : Loads
   L0 = loads_at site.plant (bundles_of s0) (walks_of p.steps) reached.world k
 
@@ -195,8 +194,8 @@ module _ (law : KeepsRoom) (site : SiteState) (row : Row) (k : ℕ) (s0 s1 : Lis
         let more = grown L0 reached.carries in
         let next : k + 1 ≡ suc k = omega arith in
         let after : HoldLoads site.plant s2 q.flight L1 = subst (λ l. HoldLoads site.plant s2 q.flight l)
-            (sym (ap (loads_at site.plant (bundles_of s0) (walks_of p.steps) reached.world) next
-            ∙ ap (after_row site.plant (bundles_of s0) (walks_of p.steps) k L0) reached.played.in_cycle)) more.held in
+        (sym (ap (loads_at site.plant (bundles_of s0) (walks_of p.steps) reached.world) next
+        ∙ ap (after_row site.plant (bundles_of s0) (walks_of p.steps) k L0) reached.played.in_cycle)) more.held in
         let count : length s2 ≡ length site.plant.devices = sym (length-map s2 (λ (s : SwitchState). s.bundle)) ∙ ap length blocks_after ∙ whole.plan.count in
         let walks = ap (λ w. pending site.plant w loads) (ap walks_of steps_after) in
         let same = pending_same site.plant (walks_of p.steps) s2 q.flight loads L1 count carries after in

@@ -3,3 +3,4 @@ pub mod Begun
 pub mod Carrying
 pub mod Coming
 pub mod Cycles
+pub mod Opening

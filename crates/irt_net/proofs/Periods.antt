@@ -3,7 +3,6 @@ use Rattle.std.proofs.Common.{◌≡◌, ℕ, ◌-◌, ◌%◌, ◌<◌, List, [
 use Rattle.std.proofs.lemmas.Option.{slice_get-get_or}
 use Rattle.irt_base.specs.Periods.{period_at, port_period, number_of, side_of}
 use Rattle.irt_base.specs.Valid.{IsPeriodBlock, IsPhasePair, IsPortPeriods, IsWithin}
-use Rattle.irt_base.specs.declared.blocks.Assignment.{Assignment}
 use Rattle.irt_base.specs.declared.blocks.Period.{Period}
 use Rattle.irt_base.specs.declared.blocks.PeriodBlock.{PeriodBlock}
 use Rattle.irt_base.specs.declared.blocks.PhasePair.{PhasePair}

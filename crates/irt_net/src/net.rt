@@ -80,7 +80,10 @@ impl Net {
         let site = Site::new(alloc, accepted.plant(), bundles)?;
         let parcels = Parcels::new(alloc, &site, routes)?;
         let places = plan_places(bundles);
-        let Some(most) = places.checked_add(parcels.most_rows(site.plant()) as usize) else {
+        let Some(rows) = parcels.most_rows(site.plant()) else {
+            return Err(NoMemory);
+        };
+        let Some(most) = places.checked_add(rows) else {
             return Err(NoMemory);
         };
         Ok(Net {

@@ -1,4 +1,4 @@
-use Rattle.std.proofs.Common.{◌≡◌, ◌≤◌, ◌++◌, List, length, drop, sym, ◌∙◌, ap, subst, arith, All, vec_capacity}
+use Rattle.std.proofs.Common.{◌≤◌, List, length, sym, ◌∙◌, ap, subst, arith, All}
 use Rattle.cycle_frames.specs.Bytes.{AreFramesOf}
 use Rattle.cycle_frames.specs.Came.{HaveCome}
 use Rattle.irt_base.specs.declared.blocks.Bundle.{Bundle}
