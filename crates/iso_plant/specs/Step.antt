@@ -57,3 +57,5 @@ pub record Steps (old new : PlantView) (before after : EndsView) : Type 0 where
   pub done : new.done ≡ old.done + 1
   pub apps : (n : ℕ) → n < length old.plant.apps → StepsApp old new before after n
   pub ends : after.apps ≡ before.apps
+  pub output_words : (n : ℕ) → after.output_words n ≡ before.output_words n
+  pub input_words : (n : ℕ) → after.input_words n ≡ before.input_words n

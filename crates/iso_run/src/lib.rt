@@ -1,4 +1,5 @@
 //! Runs of an accepted plan over a world, with the plant's applications.
 #![tactic(auto)]
 
+mod ends;
 pub mod lockstep;
