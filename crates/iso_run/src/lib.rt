@@ -1,5 +1,6 @@
 //! Runs of an accepted plan over a world, with the plant's applications.
 #![tactic(auto)]
 
+mod apps;
 mod ends;
 pub mod lockstep;
