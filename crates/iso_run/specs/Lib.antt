@@ -1,3 +1,4 @@
 pub mod Run
 pub mod Ends
 pub mod Apps
+pub mod Each

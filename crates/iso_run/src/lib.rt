@@ -4,3 +4,4 @@
 mod apps;
 mod ends;
 pub mod lockstep;
+mod turns;
