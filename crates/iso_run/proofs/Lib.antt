@@ -1,1 +1,4 @@
 pub mod Places
+pub mod Stepping
+pub mod OneTurn
+pub mod OneCycle

@@ -1,5 +1,5 @@
 -- Lists that are written place by place.
-use Rattle.std.proofs.Common.{◌≡◌, ◌≢◌, ℕ, ◌+◌, ◌<◌, ◌≤◌, List, length, get_or, slice_get, Some, inl, inr, refl, sym, ◌∙◌, ap, subst, arith, Bool, false}
+use Rattle.std.proofs.Common.{◌≡◌, ◌≢◌, ℕ, ◌+◌, ◌<◌, ◌≤◌, ◌^◌, List, length, get_or, slice_get, Some, inl, inr, refl, sym, ◌∙◌, ap, subst, arith, Bool, false}
 use Rattle.std.specs.Prelude.{◌==◌, slice_set}
 use Rattle.std.specs.List.{All, list_any}
 use Rattle.std.proofs.lemmas.Bool.{cases_Bool, false≢true, eq-eqb, eqb-true}
@@ -76,8 +76,8 @@ each_unless_failed R failed old now all none = record {
 -- the app at the next place is ready, and has its end
 pub ready_here : {A : Type 0} (R : ℕ → LockstepApp A → LockstepApp A → Type 0) (place : ℕ) (old now : List (LockstepApp A)) (ends : List EndView)
     (a : LockstepApp A) (e : EndView) → AreReady old ends → AreEachBelow R place old now → place < length old → a ≡ get_or now place a → e ≡ get_or ends place e →
-    IsReady a × IsEndOf a e
+    IsReady a × (a.input.newest < 2 ^ 60) × IsEndOf a e
 ready_here R place old now ends a e all so_far within app end =
     let stood : slice_get old place ≡ Some a =
         sym (so_far.rest place (omega arith)) ∙ slice_get_read now (length now) place a refl (omega (arith, so_far.count, within)) app in
-    (all.ready place a stood, all.fit place a e stood (slice_get_read ends (length ends) place e refl (omega (arith, all.count, within)) end))
+    (all.ready place a stood, all.room place a stood, all.fit place a e stood (slice_get_read ends (length ends) place e refl (omega (arith, all.count, within)) end))

@@ -19,12 +19,11 @@ new_app state lengths output_words input_words = record {
   failed = false;
 }
 
--- the exchanges have its words, and room for a publication
+-- the exchanges have its words, and there is room for its output
 pub record IsReady {A : Type 0} (a : LockstepApp A) : Type 0 where
   pub output : length a.output.newest_words ≡ a.output_words
   pub input : length a.input.newest_words ≡ a.input_words
-  pub output_room : a.output.newest < 2 ^ 60
-  pub input_room : a.input.newest < 2 ^ 60
+  pub room : a.output.newest < 2 ^ 60
 
 -- its output was taken before a cycle, and an image was published to it after
 abbrev pub with_offer : {A : Type 0} → LockstepApp A → LockstepApp A

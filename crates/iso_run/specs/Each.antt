@@ -1,5 +1,5 @@
 -- Lists of which each place was written.
-use Rattle.std.specs.Prelude.{◌≡◌, ℕ, ◌<◌, ◌≤◌, List, length, Some, slice_get}
+use Rattle.std.specs.Prelude.{◌≡◌, ℕ, ◌<◌, ◌≤◌, ◌^◌, List, length, Some, slice_get}
 use Rattle.iso_run.specs.Apps.{IsReady}
 use Rattle.iso_run.specs.Ends.{EndView}
 use Rattle.iso_run.specs.declared.apps.LockstepApp.{LockstepApp}
@@ -24,4 +24,5 @@ pub record IsEndOf {A : Type 0} (a : LockstepApp A) (e : EndView) : Type 0 where
 pub record AreReady {A : Type 0} (apps : List (LockstepApp A)) (ends : List EndView) : Type 0 where
   pub count : length ends ≡ length apps
   pub ready : (n : ℕ) (a : LockstepApp A) → slice_get apps n ≡ Some a → IsReady a
+  pub room : (n : ℕ) (a : LockstepApp A) → slice_get apps n ≡ Some a → a.input.newest < 2 ^ 60
   pub fit : (n : ℕ) (a : LockstepApp A) (e : EndView) → slice_get apps n ≡ Some a → slice_get ends n ≡ Some e → IsEndOf a e

@@ -2,3 +2,4 @@ pub mod Run
 pub mod Ends
 pub mod Apps
 pub mod Each
+pub mod InLockstep

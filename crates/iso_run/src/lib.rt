@@ -2,6 +2,7 @@
 #![tactic(auto)]
 
 mod apps;
+mod cycle;
 mod ends;
 pub mod lockstep;
 mod turns;

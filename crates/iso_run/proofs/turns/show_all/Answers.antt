@@ -9,15 +9,15 @@ use Rattle.iso_run.proofs.turns.show_all.Goals as goal
 
 pub show-requires-clause-words : goal.show-requires-clause-words
 show-requires-clause-words g c =
-    let (ready, fit) = ready_here _ c.loop-index.index c.args.apps.now c.loop-index.apps c.args.ends.now.ends.items c.index-apps-index.result c.index.result.now
+    let (ready, room, fit) = ready_here _ c.loop-index.index c.args.apps.now c.loop-index.apps c.args.ends.now.ends.items c.index-apps-index.result c.index.result.now
         c.requires c.loop-index.invariant (search rules) c.index-apps-index.is c.index.ensures in
     fit.image ∙ sym ready.input ∙ ap (λ (b : LockstepApp g.row.A.Denot). length b.input.newest_words) c.index-apps-index.is
 
 pub show-requires-clause-room : goal.show-requires-clause-room
 show-requires-clause-room g c =
-    let (ready, fit) = ready_here _ c.loop-index.index c.args.apps.now c.loop-index.apps c.args.ends.now.ends.items c.index-apps-index.result c.index.result.now
+    let (ready, room, fit) = ready_here _ c.loop-index.index c.args.apps.now c.loop-index.apps c.args.ends.now.ends.items c.index-apps-index.result c.index.result.now
         c.requires c.loop-index.invariant (search rules) c.index-apps-index.is c.index.ensures in
-    subst (λ (b : LockstepApp g.row.A.Denot). b.input.newest < 2 ^ 60) c.index-apps-index.is ready.input_room
+    subst (λ (b : LockstepApp g.row.A.Denot). b.input.newest < 2 ^ 60) c.index-apps-index.is room
 
 pub loop-index-preserved : goal.loop-index-preserved
 loop-index-preserved g c =

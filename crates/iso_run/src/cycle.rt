@@ -1,0 +1,38 @@
+//! A cycle of a lockstep run.
+
+ghost use Rattle.std.specs.Prelude.{◌≡◌, ◌+◌, ◌<◌, ◌≤◌, List, IfOk, length};
+ghost use Rattle.irt_base.specs.declared.limits.TheConstants.{MAX_CYCLES};
+ghost use Rattle.iso_plant.specs.Step.{IsSamePlant};
+ghost use Rattle.iso_run.specs.InLockstep.{IsInLockstep};
+
+use crate::apps::LockstepApp;
+use crate::ends::PlainEnds;
+use crate::turns::{offer_all, show_all, turn_all};
+use irt_base::memory::NoMemory;
+use iso_app::IsoApp;
+use iso_plant::plant::PlantState;
+use std::alloc::Global;
+use std::thread::Threads;
+
+/// The next cycle, and the turns that follow it.
+pub fn run_cycle<A: IsoApp + Send, R: Threads + Sync>(
+    rt: &R,
+    alloc: Global,
+    plant: &mut PlantState,
+    apps: &mut [LockstepApp<A>],
+    ends: &mut PlainEnds,
+) -> Result<(), NoMemory>
+    requires open { plant.old.done < length plant.old.world.rows }
+    requires cycles { length plant.old.world.rows ≤ MAX_CYCLES }
+    requires lockstep { (states : List A) × IsInLockstep A.reply A.next_state states plant.old apps.old ends.old.ends.items }
+    ensures same { IsSamePlant plant.old plant.new }
+    ensures done { plant.new.done ≡ plant.old.done + 1 }
+    ensures lockstep { (states : List A) →
+        IsInLockstep A.reply A.next_state states plant.old apps.old ends.old.ends.items →
+        IfOk result (λ _. IsInLockstep A.reply A.next_state states plant.new apps.new ends.new.ends.items) }
+{
+    offer_all(apps, ends);
+    plant.step(ends);
+    show_all(apps, ends);
+    turn_all(rt, alloc, apps, plant.done())
+}
