@@ -1,6 +1,6 @@
 -- All apps' cycle and their turns.
 use Rattle.std.proofs.Common.{◌≡◌, ℕ, zero, suc, nat_lt, ◌+◌, ◌<◌, ◌≤◌, ◌^◌, Bool, true, false, if◌then◌else◌, List, [], ◌∷◌, ◌++◌, length, map, get_or, slice_get, Some, refl, sym, ◌∙◌, ap, subst, arith}
-use Rattle.std.specs.Prelude.{◌==◌, slice_index_or}
+use Rattle.std.specs.Prelude.{◌==◌, slice_index_or, Result, Ok, Err, OnOk, IfOk}
 use Rattle.std.specs.List.{All}
 use Rattle.std.proofs.lemmas.Bool.{false≢true, eq-eqb, eqb-true}
 use Rattle.std.proofs.lemmas.List.{ext_get_or, length-map}
@@ -10,6 +10,7 @@ use Rattle.io_buffers.specs.Passes.{publication}
 use Rattle.io_buffers.specs.Plain.{taken_from}
 use Rattle.io_buffers.specs.declared.taken.Taken.{Taken}
 use Rattle.irt_base.specs.declared.blocks.Bundle.{Bundle}
+use Rattle.irt_base.specs.declared.plants.App.{App}
 use Rattle.irt_base.specs.declared.plants.Plant.{Plant}
 use Rattle.irt_world.specs.Rows.{world_rows}
 use Rattle.iso_plant.specs.Replay.{PlantView, IsReplay, setup_in, world_in, takes_of, images_of}
@@ -30,7 +31,7 @@ use Rattle.iso_run.specs.InLockstep.{IsAppOf, HasPublished, AreBetween, IsInLock
 use Rattle.iso_run.specs.declared.apps.LockstepApp.{LockstepApp}
 use Rattle.iso_run.proofs.OneTurn.{one_turn}
 use Rattle.iso_run.proofs.Places.{all_from_places}
-use Rattle.iso_run.proofs.Stepping.{AreOffered, AreOfferedEnds, AreShown, stood, at_end, run_count, run_device, stepped_ready, offered_ready}
+use Rattle.iso_run.proofs.Stepping.{AreOffered, AreOfferedEnds, AreShown, stood, at_end, run_count, run_device, stepped_ready, offered_ready, shown_ready}
 
 -- ---- the images of devices, as a function
 
@@ -260,3 +261,71 @@ module _ {A : Type 0} (reply : A → List ℕ → ℕ → List ℕ) (next : A �
     stands : IsAppOf (setup_in new) new.done (after_turn reply next setup k (after_image (image run.device) (after_take setup k run))) b
     ready : IsReady b
     fit : (f : EndView) → slice_get after n ≡ Some f → IsEndOf b f
+
+  stepped : AreReady offered after
+  stepped = stepped_ready old new offered before after (offered_ready apps offered ends before l.between.ready so set) step
+
+  ended : (n : ℕ) (b : LockstepApp A) → slice_get turned_apps n ≡ Some b → AtEnd n b
+  ended n b is =
+      let (c, c_at) = stood shown turned_apps n b turning.count is in
+      let (o, o_at) = stood offered shown n c showing.count c_at in
+      let (a, a_at) = stood apps offered n o so.count o_at in
+      let (run, at) = stood runs apps n a l.between.count a_at in
+      let (f, f_at) = stood after offered n o (sym stepped.count) o_at in
+      let words : f.image ≡ image run.device =
+          image_of f (place n run at).now.image (ap published_to (sym (at_end after n f f_at)) ∙ (place n run at).now.published) ∙ image_is n run at in
+      let c_from : c ≡ with_input f.image o = showing.each n o c o_at c_at f f_at in
+      let c_is : c ≡ with_input (image run.device) (with_offer a) =
+          c_from ∙ ap (λ w. with_input w o) words ∙ ap (with_input (image run.device)) (so.each n a o a_at o_at) in
+      let turn : IsTurned reply next new.done c b = turning.each n c b c_at is in
+      let stands : IsAppOf setup (k + 1) (after_turn reply next setup k (after_image (image run.device) (after_take setup k run))) b =
+          one_turn reply next setup k run a b (image run.device) (l.between.each n run a at a_at)
+          (subst (λ m. IsTurned reply next m (with_input (image run.device) (with_offer a)) b) next_done (subst (λ x. IsTurned reply next new.done x b) c_is turn)) in
+      let number : (turned reply next new.done c).output.newest ≡ new.done =
+          ap (λ (x : LockstepApp A). x.output.newest) (sym turn.turned) ∙ stands.published.output ∙ sym next_done in
+      let b_is : b ≡ turned reply next new.done (with_input f.image o) = turn.turned ∙ ap (turned reply next new.done) c_from in
+      record {
+        run = run;
+        at = at;
+        stands = subst (λ (s : Setup). IsAppOf s new.done (after_turn reply next setup k (after_image (image run.device) (after_take setup k run))) b) (sym same_setup)
+            (subst (λ m. IsAppOf setup m (after_turn reply next setup k (after_image (image run.device) (after_take setup k run))) b) (sym next_done) stands);
+        ready = subst IsReady (sym turn.turned)
+            (record { output = turn.width; input = (shown_ready offered shown after stepped showing n c c_at).input; room = subst (λ m. m < 2 ^ 60) (sym number) few });
+        fit = λ e e_at.
+            let fit = stepped.fit n o e o_at e_at in
+            subst (λ (x : LockstepApp A). IsEndOf x e) (sym b_is) (record { words = fit.words; image = fit.image });
+      }
+
+  one_cycle : IsInLockstep reply next states new turned_apps after
+  one_cycle = record {
+    runs = next_runs;
+    played = played_on;
+    between = record {
+      devices = same_devices reply next setup k image runs ∙ l.between.devices ∙ ap (λ (p : Plant). map (λ (x : App). x.device.0) p.apps) (sym step.same.plant);
+      takes = takes_are ∙ sym (same_takes reply next setup k image runs);
+      images = images_are;
+      count = turning.count ∙ showing.count ∙ so.count ∙ l.between.count ∙ sym next_count;
+      ready = record {
+        count = stepped.count ∙ sym (turning.count ∙ showing.count);
+        ready = λ n b is. (ended n b is).ready;
+        room = λ n b is. subst (λ m. m < 2 ^ 60) (sym (ended n b is).stands.published.input) few;
+        fit = λ n b f is at. (ended n b is).fit f at;
+      };
+      each = λ n run b at is.
+          let end = ended n b is in
+          subst (λ (r : AppRun A). IsAppOf (setup_in new) new.done r b)
+          (same_Some _ run (sym (cycle_at reply next setup k image runs n end.run end.at) ∙ at)) end.stands;
+    };
+  }
+
+-- where no turn failed
+pub cycle_told : {A E : Type 0} (reply : A → List ℕ → ℕ → List ℕ) (next : A → List ℕ → ℕ → A) (states : List A) (old new : PlantView)
+    (apps offered shown turned_apps : List (LockstepApp A)) (ends before after : List EndView) (found : ℕ) (r : Result (Unit {0}) E) →
+    IsInLockstep reply next states old apps ends → AreOffered apps offered → AreOfferedEnds apps ends before →
+    Steps old new (ends_view before) (ends_view after) → IsReplay new → AreShown after offered shown → found ≡ new.done →
+    OnOk r (AreEach (λ n a b. IsTurned reply next found a b) shown turned_apps) → new.done < 2 ^ 60 →
+    IfOk r (λ v. IsInLockstep reply next states new turned_apps after)
+cycle_told reply next states old new apps offered shown turned_apps ends before after found (Ok v) l so set step replay showing same turning few =
+    one_cycle reply next states old new apps offered shown turned_apps ends before after l so set step replay showing
+    (subst (λ m. AreEach (λ n a b. IsTurned reply next m a b) shown turned_apps) same turning) few
+cycle_told reply next states old new apps offered shown turned_apps ends before after found (Err e) l so set step replay showing same turning few = tt
