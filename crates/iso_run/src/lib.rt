@@ -4,5 +4,6 @@
 mod apps;
 mod cycle;
 mod ends;
+mod lengths;
 pub mod lockstep;
 mod turns;
