@@ -2,3 +2,4 @@ pub mod Places
 pub mod Stepping
 pub mod OneTurn
 pub mod OneCycle
+pub mod OpenedApps

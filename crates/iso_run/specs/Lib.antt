@@ -3,3 +3,4 @@ pub mod Ends
 pub mod Apps
 pub mod Each
 pub mod InLockstep
+pub mod Opened

@@ -6,4 +6,5 @@ mod cycle;
 mod ends;
 mod lengths;
 pub mod lockstep;
+mod opening;
 mod turns;
