@@ -3,3 +3,4 @@ pub mod Stepping
 pub mod OneTurn
 pub mod OneCycle
 pub mod OpenedApps
+pub mod Begun

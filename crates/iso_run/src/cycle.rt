@@ -1,4 +1,4 @@
-//! A cycle of a lockstep run.
+//! The cycles of a lockstep run.
 
 ghost use Rattle.std.specs.Prelude.{◌≡◌, ◌+◌, ◌<◌, ◌≤◌, List, IfOk, length};
 ghost use Rattle.irt_base.specs.declared.limits.TheConstants.{MAX_CYCLES};
@@ -15,7 +15,7 @@ use std::alloc::Global;
 use std::thread::Threads;
 
 /// The next cycle, and the turns that follow it.
-pub fn run_cycle<A: IsoApp + Send, R: Threads + Sync>(
+fn run_cycle<A: IsoApp + Send, R: Threads + Sync>(
     rt: &R,
     alloc: Global,
     plant: &mut PlantState,
@@ -35,4 +35,29 @@ pub fn run_cycle<A: IsoApp + Send, R: Threads + Sync>(
     plant.step(ends);
     show_all(apps, ends);
     turn_all(rt, alloc, apps, plant.done())
+}
+
+/// All cycles of the plant's world.
+pub fn run_all<A: IsoApp + Send, R: Threads + Sync>(
+    rt: &R,
+    alloc: Global,
+    plant: &mut PlantState,
+    apps: &mut [LockstepApp<A>],
+    ends: &mut PlainEnds,
+    cycles: u32,
+) -> Result<(), NoMemory>
+    requires begun { plant.old.done ≡ 0 }
+    requires cycles { cycles ≡ length plant.old.world.rows }
+    requires few { cycles ≤ MAX_CYCLES }
+    requires lockstep { (states : List A) × IsInLockstep A.reply A.next_state states plant.old apps.old ends.old.ends.items }
+    ensures same { IsSamePlant plant.old plant.new }
+    ensures done { IfOk result (λ _. plant.new.done ≡ cycles) }
+    ensures lockstep { (states : List A) →
+        IsInLockstep A.reply A.next_state states plant.old apps.old ends.old.ends.items →
+        IfOk result (λ _. IsInLockstep A.reply A.next_state states plant.new apps.new ends.new.ends.items) }
+{
+    for _k in 0..cycles {
+        run_cycle(rt, alloc, plant, apps, ends)?;
+    }
+    Ok(())
 }
