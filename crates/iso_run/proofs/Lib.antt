@@ -4,3 +4,4 @@ pub mod OneTurn
 pub mod OneCycle
 pub mod OpenedApps
 pub mod Begun
+pub mod Recorded

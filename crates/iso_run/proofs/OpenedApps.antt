@@ -1,11 +1,13 @@
--- Apps before the first cycle.
+-- Apps before the first cycle, and lists that are paired one by one.
 use Rattle.std.proofs.Common.{◌≡◌, ℕ, zero, suc, ◌+◌, ◌<◌, ◌≤◌, List, [], ◌∷◌, ◌++◌, length, map, drop, take, zip, slice_get, Some, refl, sym, ◌∙◌, ap, subst, arith}
+use Rattle.std.specs.Prelude.{slice_set}
 use Rattle.std.proofs.lemmas.List.{length-drop, map_push, take_all}
 use Rattle.std.proofs.lemmas.Slice.Zip.{length-zip}
 use Rattle.std.proofs.lemmas.Option.{same_Some}
 use Rattle.irt_base.specs.declared.plants.App.{App}
 use Rattle.iso_rules.specs.Station.{input_count, output_count, output_lengths}
 use Rattle.plan_rules.specs.Way.{Setup}
+use Rattle.iso_station.proofs.Placing.{set_elsewhere}
 use Rattle.iso_run.specs.Apps.{new_app}
 use Rattle.iso_run.specs.Opened.{opened_app}
 use Rattle.iso_run.specs.declared.apps.LockstepApp.{LockstepApp}
@@ -61,3 +63,16 @@ opened_all f xs ys k made count none so_far =
     let past = length-drop k ys in
     let long = length-zip xs ys in
     so_far ∙ ap (map f) (take_all k (zip xs ys) (omega (arith, past, none, long, count)))
+
+-- after the next place was written, those behind it are as they were
+pub others_stay : {X : Type 0} (xs now : List X) (k m place : ℕ) (y : X) → ((n : ℕ) → k ≤ n → slice_get now n ≡ slice_get xs n) → place ≡ k → m ≡ k + 1 →
+    (n : ℕ) → m ≤ n → slice_get (slice_set now place y) n ≡ slice_get xs n
+others_stay xs now k m place y stay here more n past =
+    set_elsewhere now place n y (λ same. absurd (omega (arith, here, more, past, same))) ∙ stay n (omega (arith, more, past))
+
+pub zip_at : {X Y : Type 0} (xs : List X) (ys : List Y) (n : ℕ) (x : X) (y : Y) → slice_get xs n ≡ Some x → slice_get ys n ≡ Some y →
+    slice_get (zip xs ys) n ≡ Some (x, y)
+zip_at [] ys n x y first second = absurd (cc)
+zip_at (a ∷ xs) [] n x y first second = absurd (cc)
+zip_at (a ∷ xs) (b ∷ ys) zero x y first second = ap (λ w. Some (w, b)) (same_Some a x first) ∙ ap (λ w. Some (x, w)) (same_Some b y second)
+zip_at (a ∷ xs) (b ∷ ys) (suc n) x y first second = zip_at xs ys n x y first second

@@ -4,3 +4,4 @@ pub mod Apps
 pub mod Each
 pub mod InLockstep
 pub mod Opened
+pub mod Logs

@@ -2,6 +2,7 @@
 #![tactic(auto)]
 
 mod apps;
+mod closing;
 mod cycle;
 mod ends;
 mod lengths;

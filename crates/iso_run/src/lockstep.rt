@@ -6,11 +6,15 @@ ghost use Rattle.irt_route.specs.Routes.{IsRoutesOf};
 ghost use Rattle.irt_world.specs.Rows.{Fits};
 ghost use Rattle.iso_run.specs.Run.{IsRunRecord};
 
+use crate::closing::close_all;
+use crate::cycle::run_all;
+use crate::opening::{Opened, open_all};
 use irt_base::list::Items;
 use irt_base::memory::NoMemory;
 use irt_route::tables::Routes;
 use irt_world::rows::World;
 use iso_app::IsoApp;
+use iso_plant::plant::{History, PlantState};
 use plan_check::accepted::Accepted;
 use record_text::record::Record;
 use std::alloc::Global;
@@ -36,5 +40,17 @@ pub fn run_lockstep<A: IsoApp + Send, R: Threads + Sync>(
     ensures { IfOk result (λ r. IsRunRecord A.reply A.next_state accepted.now.plant accepted.now.bundles routes.now.walks
         world apps r) }
 {
-    Err(NoMemory)
+    let cycles = world.rows.len() as u32;
+    let mut plant = PlantState::new(alloc, accepted, routes, world)?;
+    let Opened { mut apps, mut ends } = open_all(alloc, accepted, &plant, apps)?;
+    run_all(rt, alloc, &mut plant, apps.as_mut_slice(), &mut ends, cycles)?;
+    let History {
+        apps: histories,
+        journal,
+    } = plant.into_history();
+    Ok(Record {
+        cycles,
+        apps: close_all(alloc, apps, histories)?,
+        journal,
+    })
 }
