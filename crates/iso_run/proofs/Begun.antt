@@ -4,19 +4,22 @@ use Rattle.std.specs.Prelude.{slice_index_or}
 use Rattle.std.proofs.lemmas.List.{ext_get_or, length-map, length-replicate}
 use Rattle.std.proofs.lemmas.Option.{same_Some, get_or_from_slice_get}
 use Rattle.std.proofs.lemmas.Slice.Zip.{length-zip}
+use Rattle.irt_base.specs.declared.blocks.Bundle.{Bundle}
 use Rattle.irt_base.specs.declared.plants.App.{App}
+use Rattle.irt_base.specs.declared.plants.Plant.{Plant}
 use Rattle.iso_plant.specs.Replay.{PlantView, IsReplay, setup_in, world_in}
 use Rattle.iso_rules.specs.Lockstep.{IsLockstep, begun, new_runs}
 use Rattle.iso_rules.specs.Station.{input_count, output_count, output_lengths}
 use Rattle.iso_rules.specs.Turns.{AppRun, new_run}
 use Rattle.iso_rules.proofs.PlayedRuns.{mapped_at, map_at}
 use Rattle.plan_rules.proofs.Held.{some_at}
+use Rattle.plan_rules.specs.Plan.{setup_of}
 use Rattle.plan_rules.specs.Way.{Setup}
 use Rattle.iso_run.specs.Apps.{new_app, IsReady}
 use Rattle.iso_run.specs.Each.{AreReady, IsEndOf}
 use Rattle.iso_run.specs.Ends.{EndView}
 use Rattle.iso_run.specs.InLockstep.{IsAppOf, IsInLockstep}
-use Rattle.iso_run.specs.Opened.{opened_app, opened_apps, opened_end, opened_ends}
+use Rattle.iso_run.specs.Opened.{opened_app, opened_end, AreOpened}
 use Rattle.iso_run.specs.declared.apps.LockstepApp.{LockstepApp}
 use Rattle.iso_run.proofs.Stepping.{run_count}
 
@@ -54,9 +57,12 @@ opened_stands setup device state = record {
 }
 
 pub begun_lockstep : {A : Type 0} (reply : A → List ℕ → ℕ → List ℕ) (next : A → List ℕ → ℕ → A) (states : List A) (v : PlantView)
-    (apps : List (LockstepApp A)) (ends : List EndView) → v.done ≡ 0 → IsReplay v → length states ≡ length v.plant.apps →
-    apps ≡ opened_apps (setup_in v) states → ends ≡ opened_ends (setup_in v) states → IsInLockstep reply next states v apps ends
-begun_lockstep {A} reply next states v apps ends done replay count apps_are ends_are =
+    (apps : List (LockstepApp A)) (ends : List EndView) → v.done ≡ 0 → IsReplay v → AreOpened (setup_in v) states apps ends →
+    IsInLockstep reply next states v apps ends
+begun_lockstep {A} reply next states v apps ends done replay opened =
+    let count = opened.count in
+    let apps_are = opened.apps in
+    let ends_are = opened.ends in
     let setup = setup_in v in
     let pairs : List (App × A) = zip v.plant.apps states in
     let runs : List (AppRun A) = new_runs v.plant states in
@@ -101,3 +107,10 @@ begun_lockstep {A} reply next states v apps ends done replay count apps_are ends
             (subst (λ r. IsAppOf setup 0 r a) run_is (subst (λ x. IsAppOf setup 0 (new_run p.0.device.0 p.1) x) made (opened_stands setup p.0.device.0 p.1)));
       };
     }
+
+-- for the plant that plays the plan
+pub opened_in : {A : Type 0} (states : List A) (v : PlantView) (plant : Plant) (bundles : List Bundle) (opened apps : List (LockstepApp A)) (ends : List EndView) →
+    v.plant ≡ plant → v.bundles ≡ bundles → opened ≡ apps → AreOpened (setup_of plant bundles) states apps ends → AreOpened (setup_in v) states opened ends
+opened_in states v plant bundles opened apps ends plants blocks same all =
+    subst (λ p. AreOpened (setup_of p v.bundles) states opened ends) (sym plants)
+    (subst (λ b. AreOpened (setup_of plant b) states opened ends) (sym blocks) (subst (λ l. AreOpened (setup_of plant bundles) states l ends) (sym same) all))

@@ -1,5 +1,5 @@
 -- The apps of a lockstep run before the first cycle, in the plant's order.
-use Rattle.std.specs.Prelude.{ℕ, List, map, zip}
+use Rattle.std.specs.Prelude.{◌≡◌, ℕ, List, length, map, zip}
 use Rattle.iso_rules.specs.Station.{input_count, output_count, output_lengths}
 use Rattle.iso_run.specs.Apps.{new_app}
 use Rattle.iso_run.specs.Ends.{EndView, new_end}
@@ -18,3 +18,8 @@ opened_apps setup states = map (λ p. opened_app setup p.0.device.0 p.1) (zip se
 
 abbrev pub opened_ends : {A : Type 0} → Setup → List A → List EndView
 opened_ends setup states = map (λ p. opened_end setup p.0.device.0) (zip setup.plant.apps states)
+
+pub record AreOpened {A : Type 0} (setup : Setup) (states : List A) (opened : List (LockstepApp A)) (own : List EndView) : Type 0 where
+  pub count : length states ≡ length setup.plant.apps
+  pub apps : opened ≡ opened_apps setup states
+  pub ends : own ≡ opened_ends setup states

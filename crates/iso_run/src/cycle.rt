@@ -2,8 +2,10 @@
 
 ghost use Rattle.std.specs.Prelude.{◌≡◌, ◌+◌, ◌<◌, ◌≤◌, List, IfOk, length};
 ghost use Rattle.irt_base.specs.declared.limits.TheConstants.{MAX_CYCLES};
+ghost use Rattle.iso_plant.specs.Replay.{setup_in};
 ghost use Rattle.iso_plant.specs.Step.{IsSamePlant};
 ghost use Rattle.iso_run.specs.InLockstep.{IsInLockstep};
+ghost use Rattle.iso_run.specs.Opened.{AreOpened};
 
 use crate::apps::LockstepApp;
 use crate::ends::PlainEnds;
@@ -49,14 +51,14 @@ pub fn run_all<A: IsoApp + Send, R: Threads + Sync>(
     requires begun { plant.old.done ≡ 0 }
     requires cycles { cycles ≡ length plant.old.world.rows }
     requires few { cycles ≤ MAX_CYCLES }
-    requires lockstep { (states : List A) × IsInLockstep A.reply A.next_state states plant.old apps.old ends.old.ends.items }
+    requires opened { (states : List A) × AreOpened (setup_in plant.old) states apps.old ends.old.ends.items }
     ensures same { IsSamePlant plant.old plant.new }
     ensures done { IfOk result (λ _. plant.new.done ≡ cycles) }
     ensures lockstep { (states : List A) →
-        IsInLockstep A.reply A.next_state states plant.old apps.old ends.old.ends.items →
+        AreOpened (setup_in plant.old) states apps.old ends.old.ends.items →
         IfOk result (λ _. IsInLockstep A.reply A.next_state states plant.new apps.new ends.new.ends.items) }
 {
-    for _k in 0..cycles {
+    for _k in plant.done()..cycles {
         run_cycle(rt, alloc, plant, apps, ends)?;
     }
     Ok(())

@@ -2,7 +2,7 @@
 
 ghost use Rattle.std.specs.Prelude.{◌≡◌, ◌<◌, IfOk, Some, length, slice_get};
 ghost use Rattle.irt_base.specs.declared.plants.App.{App};
-ghost use Rattle.iso_run.specs.Opened.{opened_app, opened_apps, opened_end, opened_ends};
+ghost use Rattle.iso_run.specs.Opened.{opened_app, opened_end, AreOpened};
 ghost use Rattle.plan_rules.specs.Plan.{setup_of};
 
 use crate::apps::LockstepApp;
@@ -64,10 +64,8 @@ pub fn open_all<A: Drop>(
     requires apps { length apps ≡ length accepted.now.plant.apps }
     requires plant { plant.now.plant ≡ accepted.now.plant }
     requires bundles { plant.now.bundles ≡ accepted.now.bundles }
-    ensures apps { IfOk result (λ o. o.apps.items ≡
-        opened_apps (setup_of accepted.now.plant accepted.now.bundles) apps) }
-    ensures ends { IfOk result (λ o. o.ends.ends.items ≡
-        opened_ends (setup_of accepted.now.plant accepted.now.bundles) apps) }
+    ensures { IfOk result (λ o. AreOpened (setup_of accepted.now.plant accepted.now.bundles) apps o.apps.items
+        o.ends.ends.items) }
 {
     let mut opened = Vec::with_capacity(alloc, apps.len())?;
     let mut ends = Vec::with_capacity(alloc, apps.len())?;

@@ -38,14 +38,12 @@ loop-app-preserved g c =
           ∙ ap (λ m. map (λ (p : App × g.row.A.Denot). opened_end setup p.0.device.0) (take m (zip plant.apps c.args.apps))) (sym more);
     }
 
-pub returns-clause-apps : goal.returns-clause-apps
-returns-clause-apps g c =
+pub returns : goal.returns
+returns g c =
     let i = c.loop-app.invariant in
-    opened_all _ c.args.accepted.now.plant.apps c.args.apps (length c.loop-app.opened.items) c.loop-app.opened.items c.requires.apps
-    (ap (λ l. length l) (sym i.rest) ∙ sym i.left ∙ c.in-None.ensures.steps.0) i.apps
-
-pub returns-clause-ends : goal.returns-clause-ends
-returns-clause-ends g c =
-    let i = c.loop-app.invariant in
-    opened_all _ c.args.accepted.now.plant.apps c.args.apps (length c.loop-app.opened.items) c.loop-app.ends.items c.requires.apps
-    (ap (λ l. length l) (sym i.rest) ∙ sym i.left ∙ c.in-None.ensures.steps.0) i.ends
+    let none = ap (λ l. length l) (sym i.rest) ∙ sym i.left ∙ c.in-None.ensures.steps.0 in
+    record {
+      count = c.requires.apps;
+      apps = opened_all _ c.args.accepted.now.plant.apps c.args.apps (length c.loop-app.opened.items) c.loop-app.opened.items c.requires.apps none i.apps;
+      ends = opened_all _ c.args.accepted.now.plant.apps c.args.apps (length c.loop-app.opened.items) c.loop-app.ends.items c.requires.apps none i.ends;
+    }
