@@ -1,22 +1,21 @@
 -- The apps before the first cycle are in lockstep.
-use Rattle.std.proofs.Common.{◌≡◌, ℕ, zero, suc, ◌+◌, ◌<◌, ◌≤◌, ◌^◌, List, [], ◌∷◌, length, map, replicate, zip, get_or, slice_get, Some, refl, sym, ◌∙◌, ap, subst, arith}
+use Rattle.std.proofs.Common.{◌≡◌, ℕ, ◌<◌, ◌^◌, List, [], ◌∷◌, length, map, zip, get_or, slice_get, Some, refl, sym, ◌∙◌, ap, subst, arith}
 use Rattle.std.specs.Prelude.{slice_index_or}
 use Rattle.std.proofs.lemmas.List.{ext_get_or, length-map, length-replicate}
 use Rattle.std.proofs.lemmas.Option.{same_Some, get_or_from_slice_get}
-use Rattle.std.proofs.lemmas.Slice.Zip.{length-zip}
 use Rattle.irt_base.specs.declared.blocks.Bundle.{Bundle}
 use Rattle.irt_base.specs.declared.plants.App.{App}
 use Rattle.irt_base.specs.declared.plants.Plant.{Plant}
 use Rattle.iso_plant.specs.Replay.{PlantView, IsReplay, setup_in, world_in}
 use Rattle.iso_rules.specs.Lockstep.{IsLockstep, begun, new_runs}
-use Rattle.iso_rules.specs.Station.{input_count, output_count, output_lengths}
+use Rattle.iso_rules.specs.Station.{input_count, output_count}
 use Rattle.iso_rules.specs.Turns.{AppRun, new_run}
 use Rattle.iso_rules.proofs.PlayedRuns.{mapped_at, map_at}
 use Rattle.plan_rules.proofs.Held.{some_at}
 use Rattle.plan_rules.specs.Plan.{setup_of}
 use Rattle.plan_rules.specs.Way.{Setup}
-use Rattle.iso_run.specs.Apps.{new_app, IsReady}
-use Rattle.iso_run.specs.Each.{AreReady, IsEndOf}
+use Rattle.iso_run.specs.Apps.{IsReady}
+use Rattle.iso_run.specs.Each.{IsEndOf}
 use Rattle.iso_run.specs.Ends.{EndView}
 use Rattle.iso_run.specs.InLockstep.{IsAppOf, IsInLockstep}
 use Rattle.iso_run.specs.Opened.{opened_app, opened_end, AreOpened}
@@ -33,8 +32,8 @@ all_empty : {X : Type 0} (xs : List (List X)) (ys : List (List X)) → length xs
 all_empty xs ys count none empty =
     ext_get_or [] xs ys count
     (λ n within.
-        let (y, at) = some_at ys n (omega (arith, within, count)) in
-        is_empty (get_or xs n []) (none n within) ∙ sym (get_or_from_slice_get ys n y [] at ∙ empty n y at))
+    let (y, at) = some_at ys n (omega (arith, within, count)) in
+    is_empty (get_or xs n []) (none n within) ∙ sym (get_or_from_slice_get ys n y [] at ∙ empty n y at))
 
 new_devices : {A : Type 0} (apps : List App) (states : List A) → length states ≡ length apps →
     map (λ (r : AppRun A). r.device) (map (λ (p : App × A). new_run p.0.device.0 p.1) (zip apps states)) ≡ map (λ (a : App). a.device.0) apps
@@ -70,8 +69,8 @@ begun_lockstep {A} reply next states v apps ends done replay opened =
     let runs_are = run_count runs v.plant.apps devices in
     let app_count : length apps ≡ length pairs = ap (λ l. length l) apps_are ∙ length-map pairs _ in
     let app_at : (n : ℕ) (a : LockstepApp A) → slice_get apps n ≡ Some a →
-        (p : App × A) × (slice_get pairs n ≡ Some p) × (opened_app setup p.0.device.0 p.1 ≡ a) = λ n a is.
-            mapped_at (λ (p : App × A). opened_app setup p.0.device.0 p.1) pairs n a (ap (λ l. slice_get l n) (sym apps_are) ∙ is) in
+    (p : App × A) × (slice_get pairs n ≡ Some p) × (opened_app setup p.0.device.0 p.1 ≡ a) = λ n a is.
+    mapped_at (λ (p : App × A). opened_app setup p.0.device.0 p.1) pairs n a (ap (λ l. slice_get l n) (sym apps_are) ∙ is) in
     record {
       runs = runs;
       played = subst (λ k. IsLockstep reply next setup (world_in v) states k runs) (sym done) begun;
@@ -80,13 +79,13 @@ begun_lockstep {A} reply next states v apps ends done replay opened =
         takes = all_empty v.takes (map (λ (r : AppRun A). r.takes) runs) (replay.cycles.takes ∙ sym (length-map runs _ ∙ runs_are))
             (λ n within. replay.cycles.taken n (let c = replay.cycles.takes in omega (arith, c, within)) ∙ done)
             (λ n y at. let (r, there, same) = mapped_at (λ (r : AppRun A). r.takes) runs n y at in
-                let (p, stands, made) = mapped_at (λ (p : App × A). new_run p.0.device.0 p.1) pairs n r there in
-                sym (ap (λ (x : AppRun A). x.takes) made ∙ same));
+            let (p, stands, made) = mapped_at (λ (p : App × A). new_run p.0.device.0 p.1) pairs n r there in
+            sym (ap (λ (x : AppRun A). x.takes) made ∙ same));
         images = all_empty v.images (map (λ (r : AppRun A). r.images) runs) (replay.cycles.images ∙ sym (length-map runs _ ∙ runs_are))
             (λ n within. replay.cycles.published n (let c = replay.cycles.images in omega (arith, c, within)) ∙ done)
             (λ n y at. let (r, there, same) = mapped_at (λ (r : AppRun A). r.images) runs n y at in
-                let (p, stands, made) = mapped_at (λ (p : App × A). new_run p.0.device.0 p.1) pairs n r there in
-                sym (ap (λ (x : AppRun A). x.images) made ∙ same));
+            let (p, stands, made) = mapped_at (λ (p : App × A). new_run p.0.device.0 p.1) pairs n r there in
+            sym (ap (λ (x : AppRun A). x.images) made ∙ same));
         count = app_count ∙ sym (length-map pairs _);
         ready = record {
           count = ap (λ l. length l) ends_are ∙ length-map pairs _ ∙ sym app_count;
@@ -95,14 +94,14 @@ begun_lockstep {A} reply next states v apps ends done replay opened =
           fit = λ n a e is there.
               let (p, at, made) = app_at n a is in
               let e_is : opened_end setup p.0.device.0 ≡ e =
-                  same_Some _ e (sym (map_at (λ (q : App × A). opened_end setup q.0.device.0) pairs n p at) ∙ ap (λ l. slice_get l n) (sym ends_are) ∙ there) in
+              same_Some _ e (sym (map_at (λ (q : App × A). opened_end setup q.0.device.0) pairs n p at) ∙ ap (λ l. slice_get l n) (sym ends_are) ∙ there) in
               subst (λ (x : LockstepApp A). IsEndOf x e) made (subst (λ f. IsEndOf (opened_app setup p.0.device.0 p.1) f) e_is
               (record { words = length-replicate (output_count setup p.0.device.0) 0; image = length-replicate (input_count setup p.0.device.0) 0 }));
         };
         each = λ n run a at is.
             let (p, there, made) = app_at n a is in
             let run_is : new_run p.0.device.0 p.1 ≡ run =
-                same_Some _ run (sym (map_at (λ (q : App × A). new_run q.0.device.0 q.1) pairs n p there) ∙ at) in
+            same_Some _ run (sym (map_at (λ (q : App × A). new_run q.0.device.0 q.1) pairs n p there) ∙ at) in
             subst (λ k. IsAppOf setup k run a) (sym done)
             (subst (λ r. IsAppOf setup 0 r a) run_is (subst (λ x. IsAppOf setup 0 (new_run p.0.device.0 p.1) x) made (opened_stands setup p.0.device.0 p.1)));
       };

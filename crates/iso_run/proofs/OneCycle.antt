@@ -1,7 +1,6 @@
 -- All apps' cycle and their turns.
-use Rattle.std.proofs.Common.{◌≡◌, ℕ, zero, suc, nat_lt, ◌+◌, ◌<◌, ◌≤◌, ◌^◌, Bool, true, false, if◌then◌else◌, List, [], ◌∷◌, ◌++◌, length, map, get_or, slice_get, Some, refl, sym, ◌∙◌, ap, subst, arith}
+use Rattle.std.proofs.Common.{◌≡◌, ℕ, zero, suc, nat_lt, ◌+◌, ◌<◌, ◌^◌, Bool, true, false, if◌then◌else◌, List, [], ◌∷◌, ◌++◌, length, map, slice_get, Some, refl, sym, ◌∙◌, ap, subst, arith}
 use Rattle.std.specs.Prelude.{◌==◌, slice_index_or, Result, Ok, Err, OnOk, IfOk}
-use Rattle.std.specs.List.{All}
 use Rattle.std.proofs.lemmas.Bool.{false≢true, eq-eqb, eqb-true}
 use Rattle.std.proofs.lemmas.List.{ext_get_or, length-map}
 use Rattle.std.proofs.lemmas.Option.{same_Some, slice_get_within, slice_get-get_or, get_or_from_slice_get}
@@ -9,7 +8,6 @@ use Rattle.io_buffers.specs.Given.{Given, given}
 use Rattle.io_buffers.specs.Passes.{publication}
 use Rattle.io_buffers.specs.Plain.{taken_from}
 use Rattle.io_buffers.specs.declared.taken.Taken.{Taken}
-use Rattle.irt_base.specs.declared.blocks.Bundle.{Bundle}
 use Rattle.irt_base.specs.declared.plants.App.{App}
 use Rattle.irt_base.specs.declared.plants.Plant.{Plant}
 use Rattle.irt_world.specs.Rows.{world_rows}
@@ -26,8 +24,8 @@ use Rattle.plan_rules.specs.Way.{Setup}
 use Rattle.plan_rules.specs.World.{WorldRow}
 use Rattle.iso_run.specs.Apps.{with_input, with_offer, turned, IsReady, IsTurned}
 use Rattle.iso_run.specs.Each.{AreEach, AreReady, IsEndOf}
-use Rattle.iso_run.specs.Ends.{EndView, end_at, offered_from, published_to}
-use Rattle.iso_run.specs.InLockstep.{IsAppOf, HasPublished, AreBetween, IsInLockstep, ends_view}
+use Rattle.iso_run.specs.Ends.{EndView, end_at, published_to}
+use Rattle.iso_run.specs.InLockstep.{IsAppOf, IsInLockstep, ends_view}
 use Rattle.iso_run.specs.declared.apps.LockstepApp.{LockstepApp}
 use Rattle.iso_run.proofs.OneTurn.{one_turn}
 use Rattle.iso_run.proofs.Places.{all_from_places}
@@ -102,7 +100,6 @@ module _ {A : Type 0} (reply : A → List ℕ → ℕ → List ℕ) (next : A �
     (l : IsInLockstep reply next states old apps ends) (so : AreOffered apps offered) (set : AreOfferedEnds apps ends before)
     (step : Steps old new (ends_view before) (ends_view after)) (replay : IsReplay new) (showing : AreShown after offered shown)
     (turning : AreEach (λ n a b. IsTurned reply next new.done a b) shown turned_apps) (few : new.done < 2 ^ 60) where
-
   abbrev setup : Setup
   setup = setup_in old
 
@@ -147,21 +144,21 @@ module _ {A : Type 0} (reply : A → List ℕ → ℕ → List ℕ) (next : A �
         now = step.apps n (omega (arith, within, counted));
         offer = ap (λ (x : EndView). x.offer) (at_end before n f new_end ∙ set.each n e f stands new_end a was)
             ∙ given_is (taken_from a.output) a.output.newest_words k a.output.held a.output.newest
-              (publication (outputs_published setup run.device run.turns) k) refl published.output published.fresh published.words;
+            (publication (outputs_published setup run.device run.turns) k) refl published.output published.fresh published.words;
       }
 
   takes_at : (n : ℕ) (run : AppRun A) → slice_get runs n ≡ Some run → takes_of n new ≡ (after_take setup k run).takes
   takes_at n run at =
       let p = place n run at in
       let were : takes_of n old ≡ run.takes =
-          ap (λ ts. slice_index_or ts n []) l.between.takes ∙ get_or_from_slice_get _ n run.takes [] (map_at (λ (r : AppRun A). r.takes) runs n run at) in
+      ap (λ ts. slice_index_or ts n []) l.between.takes ∙ get_or_from_slice_get _ n run.takes [] (map_at (λ (r : AppRun A). r.takes) runs n run at) in
       p.now.take ∙ ap (λ ts. ts ++ (end_at before n).offer ∷ []) were ∙ ap (λ t. run.takes ++ t ∷ []) p.offer
 
   images_at : (n : ℕ) (run : AppRun A) (at : slice_get runs n ≡ Some run) → images_of n new ≡ run.images ++ (place n run at).now.image ∷ []
   images_at n run at =
       let p = place n run at in
       let were : images_of n old ≡ run.images =
-          ap (λ ts. slice_index_or ts n []) l.between.images ∙ get_or_from_slice_get _ n run.images [] (map_at (λ (r : AppRun A). r.images) runs n run at) in
+      ap (λ ts. slice_index_or ts n []) l.between.images ∙ get_or_from_slice_get _ n run.images [] (map_at (λ (r : AppRun A). r.images) runs n run at) in
       p.now.shown ∙ ap (λ ts. ts ++ p.now.image ∷ []) were
 
   image_there : (n : ℕ) (run : AppRun A) (at : slice_get runs n ≡ Some run) → slice_get (images_of n new) k ≡ Some (place n run at).now.image
@@ -176,10 +173,10 @@ module _ {A : Type 0} (reply : A → List ℕ → ℕ → List ℕ) (next : A �
       ext_get_or [] new.takes (map (λ (r : AppRun A). r.takes) (after_takes setup k runs))
       (count ∙ sym (length-map (after_takes setup k runs) (λ (r : AppRun A). r.takes) ∙ length-map runs (after_take setup k)))
       (λ n within.
-          let (run, at) = some_at runs n (omega (arith, count, within)) in
-          takes_at n run at
-          ∙ sym (get_or_from_slice_get _ n (after_take setup k run).takes []
-            (map_at (λ (r : AppRun A). r.takes) (after_takes setup k runs) n (after_take setup k run) (map_at (after_take setup k) runs n run at))))
+      let (run, at) = some_at runs n (omega (arith, count, within)) in
+      takes_at n run at
+      ∙ sym (get_or_from_slice_get _ n (after_take setup k run).takes []
+      (map_at (λ (r : AppRun A). r.takes) (after_takes setup k runs) n (after_take setup k run) (map_at (after_take setup k) runs n run at))))
 
   -- each device's image is that of its apps
   abbrev devices : List ℕ
@@ -214,9 +211,9 @@ module _ {A : Type 0} (reply : A → List ℕ → ℕ → List ℕ) (next : A �
   found n run at =
       image_found IsTrueImage devices images
       (λ m d words there is.
-          let (r, stands, device) = mapped_at (λ (r : AppRun A). r.device) runs m d there in
-          let words_are : (place m r stands).now.image ≡ words = same_Some _ words (sym (listed m r stands) ∙ is) in
-          subst (λ w. IsTrueImage d w) words_are (subst (λ x. IsTrueImage x (place m r stands).now.image) device (true_image m r stands)))
+      let (r, stands, device) = mapped_at (λ (r : AppRun A). r.device) runs m d there in
+      let words_are : (place m r stands).now.image ≡ words = same_Some _ words (sym (listed m r stands) ∙ is) in
+      subst (λ w. IsTrueImage d w) words_are (subst (λ x. IsTrueImage x (place m r stands).now.image) device (true_image m r stands)))
       n run.device (place n run at).now.image (map_at (λ (r : AppRun A). r.device) runs n run at) (listed n run at)
 
   image_is : (n : ℕ) (run : AppRun A) (at : slice_get runs n ≡ Some run) → (place n run at).now.image ≡ image run.device
@@ -236,9 +233,9 @@ module _ {A : Type 0} (reply : A → List ℕ → ℕ → List ℕ) (next : A �
       let more : IsLockstep reply next setup (world_in old) states (suc k) next_runs =
       played k runs image l.played
       (all_from_places _ runs (λ n run at.
-          subst (λ (s : Setup). IsImage s (world_in old) (words_taken (map (λ (r : AppRun A). r.takes) (after_takes setup k runs))) run.device k (image run.device)) same_setup
-          (subst (λ (w : List WorldRow). IsImage (setup_in new) w (words_taken (map (λ (r : AppRun A). r.takes) (after_takes setup k runs))) run.device k (image run.device)) same_world
-          (subst (λ (ts : List (List Given)). IsImage (setup_in new) (world_in new) (words_taken ts) run.device k (image run.device)) takes_are (found n run at))))) in
+      subst (λ (s : Setup). IsImage s (world_in old) (words_taken (map (λ (r : AppRun A). r.takes) (after_takes setup k runs))) run.device k (image run.device)) same_setup
+      (subst (λ (w : List WorldRow). IsImage (setup_in new) w (words_taken (map (λ (r : AppRun A). r.takes) (after_takes setup k runs))) run.device k (image run.device)) same_world
+      (subst (λ (ts : List (List Given)). IsImage (setup_in new) (world_in new) (words_taken ts) run.device k (image run.device)) takes_are (found n run at))))) in
       let count : suc k ≡ new.done = omega (arith, next_done) in
       subst (λ (s : Setup). IsLockstep reply next s (world_in new) states new.done next_runs) (sym same_setup)
       (subst (λ (w : List WorldRow). IsLockstep reply next setup w states new.done next_runs) (sym same_world)
@@ -248,11 +245,11 @@ module _ {A : Type 0} (reply : A → List ℕ → ℕ → List ℕ) (next : A �
   images_are =
       ext_get_or [] new.images (map (λ (r : AppRun A). r.images) next_runs) (image_count ∙ sym (length-map next_runs (λ (r : AppRun A). r.images) ∙ next_count))
       (λ n within.
-          let (run, at) = some_at runs n (omega (arith, image_count, within)) in
-          images_at n run at
-          ∙ ap (λ words. run.images ++ words ∷ []) (image_is n run at)
-          ∙ sym (get_or_from_slice_get _ n (run.images ++ image run.device ∷ []) []
-            (map_at (λ (r : AppRun A). r.images) next_runs n _ (cycle_at reply next setup k image runs n run at))))
+      let (run, at) = some_at runs n (omega (arith, image_count, within)) in
+      images_at n run at
+      ∙ ap (λ words. run.images ++ words ∷ []) (image_is n run at)
+      ∙ sym (get_or_from_slice_get _ n (run.images ++ image run.device ∷ []) []
+      (map_at (λ (r : AppRun A). r.images) next_runs n _ (cycle_at reply next setup k image runs n run at))))
 
   -- an app after its turn
   record AtEnd (n : ℕ) (b : LockstepApp A) : Type 0 where
@@ -273,16 +270,16 @@ module _ {A : Type 0} (reply : A → List ℕ → ℕ → List ℕ) (next : A �
       let (run, at) = stood runs apps n a l.between.count a_at in
       let (f, f_at) = stood after offered n o (sym stepped.count) o_at in
       let words : f.image ≡ image run.device =
-          image_of f (place n run at).now.image (ap published_to (sym (at_end after n f f_at)) ∙ (place n run at).now.published) ∙ image_is n run at in
+      image_of f (place n run at).now.image (ap published_to (sym (at_end after n f f_at)) ∙ (place n run at).now.published) ∙ image_is n run at in
       let c_from : c ≡ with_input f.image o = showing.each n o c o_at c_at f f_at in
       let c_is : c ≡ with_input (image run.device) (with_offer a) =
-          c_from ∙ ap (λ w. with_input w o) words ∙ ap (with_input (image run.device)) (so.each n a o a_at o_at) in
+      c_from ∙ ap (λ w. with_input w o) words ∙ ap (with_input (image run.device)) (so.each n a o a_at o_at) in
       let turn : IsTurned reply next new.done c b = turning.each n c b c_at is in
       let stands : IsAppOf setup (k + 1) (after_turn reply next setup k (after_image (image run.device) (after_take setup k run))) b =
-          one_turn reply next setup k run a b (image run.device) (l.between.each n run a at a_at)
-          (subst (λ m. IsTurned reply next m (with_input (image run.device) (with_offer a)) b) next_done (subst (λ x. IsTurned reply next new.done x b) c_is turn)) in
+      one_turn reply next setup k run a b (image run.device) (l.between.each n run a at a_at)
+      (subst (λ m. IsTurned reply next m (with_input (image run.device) (with_offer a)) b) next_done (subst (λ x. IsTurned reply next new.done x b) c_is turn)) in
       let number : (turned reply next new.done c).output.newest ≡ new.done =
-          ap (λ (x : LockstepApp A). x.output.newest) (sym turn.turned) ∙ stands.published.output ∙ sym next_done in
+      ap (λ (x : LockstepApp A). x.output.newest) (sym turn.turned) ∙ stands.published.output ∙ sym next_done in
       let b_is : b ≡ turned reply next new.done (with_input f.image o) = turn.turned ∙ ap (turned reply next new.done) c_from in
       record {
         run = run;

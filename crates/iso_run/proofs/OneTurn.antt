@@ -1,14 +1,12 @@
 -- An app's cycle and its turn.
-use Rattle.std.proofs.Common.{◌≡◌, ℕ, ◌+◌, ◌<◌, ◌≤◌, true, nat_lt, List, [], ◌∷◌, ◌++◌, length, map, replicate, refl, sym, ◌∙◌, ap, subst, arith}
+use Rattle.std.proofs.Common.{◌≡◌, ℕ, ◌+◌, true, nat_lt, List, [], ◌∷◌, ◌++◌, length, map, replicate, sym, ◌∙◌, ap, subst, arith}
 use Rattle.std.proofs.lemmas.Bool.Decides.{nat_tests}
 use Rattle.std.proofs.lemmas.List.{get_or_at, length-map, length_push, map_push}
 use Rattle.io_buffers.specs.Passes.{publication}
-use Rattle.io_buffers.specs.Plain.{taken_from}
-use Rattle.iso_app.specs.Sealed.{sealed}
-use Rattle.iso_rules.specs.Station.{input_count, output_count, output_lengths}
-use Rattle.iso_rules.specs.Turns.{AppRun, inputs_published, outputs_published, newest_taken, after_take, after_image, turn_after, after_turn}
+use Rattle.iso_rules.specs.Station.{input_count, output_count}
+use Rattle.iso_rules.specs.Turns.{AppRun, inputs_published, after_take, after_image, turn_after, after_turn}
 use Rattle.iso_rules.specs.declared.turn.Turn.{Turn}
-use Rattle.iso_run.specs.Apps.{with_input, with_offer, output_of, turn_of, turned, IsTurned}
+use Rattle.iso_run.specs.Apps.{with_input, with_offer, output_of, turn_of, IsTurned}
 use Rattle.iso_run.specs.InLockstep.{IsAppOf}
 use Rattle.iso_run.specs.declared.apps.LockstepApp.{LockstepApp}
 use Rattle.plan_rules.specs.Way.{Setup}
@@ -30,11 +28,11 @@ module _ {A : Type 0} (reply : A → List ℕ → ℕ → List ℕ) (next : A �
       let ran : AppRun A = after_image image (after_take setup k run) in
       let made : Turn = turn_after reply setup k ran in
       let seen : publication (inputs_published setup run.device (run.images ++ image ∷ [])) (k + 1) ≡ image =
-          last_published (replicate (input_count setup run.device) 0) run.images image k is.image_count in
+      last_published (replicate (input_count setup run.device) 0) run.images image k is.image_count in
       let number : a.input.newest ≡ k = is.published.input in
       let held : a.input.held ≡ k = is.published.held in
       let fresh : nat_lt a.input.held (a.input.newest + 1) ≡ nat_lt 0 (k + 1) =
-          ap (λ m. nat_lt m (a.input.newest + 1)) held ∙ ap (λ m. nat_lt k (m + 1)) number ∙ below_next k ∙ grind (arith, nat_tests) in
+      ap (λ m. nat_lt m (a.input.newest + 1)) held ∙ ap (λ m. nat_lt k (m + 1)) number ∙ below_next k ∙ grind (arith, nat_tests) in
       let state = is.state in
       let lengths = is.widths.lengths in
       let width = is.widths.output in
@@ -51,7 +49,7 @@ module _ {A : Type 0} (reply : A → List ℕ → ℕ → List ℕ) (next : A �
           output = ap (λ m. m + 1) is.published.output;
           words = output
               ∙ sym (last_published (replicate (output_count setup run.device) 0) (map (λ (t : Turn). t.output) run.turns) made.output k
-                (length-map run.turns (λ (t : Turn). t.output) ∙ is.turn_count))
+              (length-map run.turns (λ (t : Turn). t.output) ∙ is.turn_count))
               ∙ ap (λ ws. publication (replicate (output_count setup run.device) 0 ∷ ws) (k + 1)) (sym (map_push (λ (t : Turn). t.output) run.turns made));
           fresh = ap (λ m. nat_lt m (k + 1)) is.published.output ∙ below_next k ∙ grind (arith, nat_tests);
           input = ap (λ m. m + 1) number;

@@ -1,10 +1,9 @@
 -- Apps before the first cycle, and lists that are paired one by one.
-use Rattle.std.proofs.Common.{◌≡◌, ℕ, zero, suc, ◌+◌, ◌<◌, ◌≤◌, List, [], ◌∷◌, ◌++◌, length, map, drop, take, zip, slice_get, Some, refl, sym, ◌∙◌, ap, subst, arith}
+use Rattle.std.proofs.Common.{◌≡◌, ℕ, zero, suc, ◌+◌, ◌<◌, ◌≤◌, List, [], ◌∷◌, ◌++◌, length, map, drop, take, zip, slice_get, Some, sym, ◌∙◌, ap, arith}
 use Rattle.std.specs.Prelude.{slice_set}
 use Rattle.std.proofs.lemmas.List.{length-drop, map_push, take_all}
 use Rattle.std.proofs.lemmas.Slice.Zip.{length-zip}
 use Rattle.std.proofs.lemmas.Option.{same_Some}
-use Rattle.irt_base.specs.declared.plants.App.{App}
 use Rattle.iso_rules.specs.Station.{input_count, output_count, output_lengths}
 use Rattle.plan_rules.specs.Way.{Setup}
 use Rattle.iso_station.proofs.Placing.{set_elsewhere}

@@ -35,13 +35,13 @@ below_more R place old now x y so_far within read new =
       each = λ n v w below was is.
           elim (cases_Bool (n == place)) [
             | inr differs ↦
-              let apart : n ≢ place = λ same. absurd (false≢true (sym differs ∙ eq-eqb n place same)) in
-              so_far.each n v w (omega (arith, below, apart)) was (sym (set_elsewhere now place n y apart) ∙ is)
+                let apart : n ≢ place = λ same. absurd (false≢true (sym differs ∙ eq-eqb n place same)) in
+                so_far.each n v w (omega (arith, below, apart)) was (sym (set_elsewhere now place n y apart) ∙ is)
             | inl equals ↦
-              let here : n ≡ place = eqb-true n place equals in
-              let v_is : v ≡ x = same_Some v x (sym was ∙ ap (slice_get old) here ∙ first) in
-              let w_is : w ≡ y = same_Some w y (sym is ∙ ap (slice_get (slice_set now place y)) here ∙ set_there now place y x stood) in
-              subst (λ m. R m v w) (sym here) (subst (λ a. R place a w) (sym v_is) (subst (λ b. R place x b) (sym w_is) (new first)))
+                let here : n ≡ place = eqb-true n place equals in
+                let v_is : v ≡ x = same_Some v x (sym was ∙ ap (slice_get old) here ∙ first) in
+                let w_is : w ≡ y = same_Some w y (sym is ∙ ap (slice_get (slice_set now place y)) here ∙ set_there now place y x stood) in
+                subst (λ m. R m v w) (sym here) (subst (λ a. R place a w) (sym v_is) (subst (λ b. R place x b) (sym w_is) (new first)))
           ];
       rest = λ n past. set_elsewhere now place n y (λ same. absurd (omega (arith, past, same))) ∙ so_far.rest n (omega (arith, past));
     }
@@ -79,5 +79,5 @@ pub ready_here : {A : Type 0} (R : ℕ → LockstepApp A → LockstepApp A → T
     IsReady a × (a.input.newest < 2 ^ 60) × IsEndOf a e
 ready_here R place old now ends a e all so_far within app end =
     let stood : slice_get old place ≡ Some a =
-        sym (so_far.rest place (omega arith)) ∙ slice_get_read now (length now) place a refl (omega (arith, so_far.count, within)) app in
+    sym (so_far.rest place (omega arith)) ∙ slice_get_read now (length now) place a refl (omega (arith, so_far.count, within)) app in
     (all.ready place a stood, all.room place a stood, all.fit place a e stood (slice_get_read ends (length ends) place e refl (omega (arith, all.count, within)) end))

@@ -1,5 +1,5 @@
 -- The record of a lockstep run.
-use Rattle.std.proofs.Common.{◌≡◌, ℕ, ◌+◌, ◌<◌, ◌≤◌, min, List, [], length, map, zip, slice_get, Some, refl, sym, ◌∙◌, ap, subst, arith}
+use Rattle.std.proofs.Common.{◌≡◌, ℕ, ◌<◌, List, [], length, map, zip, slice_get, Some, sym, ◌∙◌, ap, subst, arith}
 use Rattle.std.specs.Prelude.{slice_index_or}
 use Rattle.std.proofs.lemmas.List.{ext_get_or, length-map}
 use Rattle.std.proofs.lemmas.Option.{slice_get_within, get_or_from_slice_get}
@@ -8,7 +8,7 @@ use Rattle.cycle_rows.specs.Journal.{IsJournal}
 use Rattle.irt_base.specs.declared.blocks.Bundle.{Bundle}
 use Rattle.irt_base.specs.declared.numbers.PortNo.{PortNo}
 use Rattle.irt_base.specs.declared.plants.Plant.{Plant}
-use Rattle.irt_world.specs.Rows.{world_row, world_rows}
+use Rattle.irt_world.specs.Rows.{world_row}
 use Rattle.irt_world.specs.declared.rows.World.{World}
 use Rattle.iso_plant.specs.Replay.{PlantView, IsReplay, setup_in, world_in, takes_of, images_of}
 use Rattle.iso_plant.specs.declared.plant.AppHistory.{AppHistory}
@@ -44,24 +44,24 @@ logs_are {A} reply next states v apps ends histories l all =
     let history_count = all.count in
     let pairs = length-zip apps histories in
     let long : length (logs_from apps histories) ≡ length runs =
-        length-map (zip apps histories) _ ∙ omega (arith, pairs, app_count, history_count, count) in
+    length-map (zip apps histories) _ ∙ omega (arith, pairs, app_count, history_count, count) in
     ext_get_or no_log (logs_from apps histories) (map log_of runs) (long ∙ sym (length-map runs log_of))
     (λ n within.
-        let (run, at) = some_at runs n (omega (arith, long, within)) in
-        let (a, was) = stood apps runs n run (sym app_count) at in
-        let below = slice_get_within runs n run at in
-        let history : AppHistory = record { takes = takes_of n v; images = images_of n v } in
-        let takes : takes_of n v ≡ run.takes =
-            ap (λ ts. slice_index_or ts n []) l.between.takes ∙ get_or_from_slice_get _ n run.takes [] (map_at (λ (r : AppRun A). r.takes) runs n run at) in
-        let images : images_of n v ≡ run.images =
-            ap (λ ts. slice_index_or ts n []) l.between.images ∙ get_or_from_slice_get _ n run.images [] (map_at (λ (r : AppRun A). r.images) runs n run at) in
-        let turns = (l.between.each n run a at was).turns in
-        let same : log_from a history ≡ log_of run = cc in
-        get_or_from_slice_get _ n (log_from a history) no_log
-        (map_at (λ (p : LockstepApp A × AppHistory). log_from p.0 p.1) (zip apps histories) n (a, history)
-          (zip_at apps histories n a history was (all.apps n (omega (arith, below, count)))))
-        ∙ same
-        ∙ sym (get_or_from_slice_get _ n (log_of run) no_log (map_at log_of runs n run at)))
+    let (run, at) = some_at runs n (omega (arith, long, within)) in
+    let (a, was) = stood apps runs n run (sym app_count) at in
+    let below = slice_get_within runs n run at in
+    let history : AppHistory = record { takes = takes_of n v; images = images_of n v } in
+    let takes : takes_of n v ≡ run.takes =
+    ap (λ ts. slice_index_or ts n []) l.between.takes ∙ get_or_from_slice_get _ n run.takes [] (map_at (λ (r : AppRun A). r.takes) runs n run at) in
+    let images : images_of n v ≡ run.images =
+    ap (λ ts. slice_index_or ts n []) l.between.images ∙ get_or_from_slice_get _ n run.images [] (map_at (λ (r : AppRun A). r.images) runs n run at) in
+    let turns = (l.between.each n run a at was).turns in
+    let same : log_from a history ≡ log_of run = cc in
+    get_or_from_slice_get _ n (log_from a history) no_log
+    (map_at (λ (p : LockstepApp A × AppHistory). log_from p.0 p.1) (zip apps histories) n (a, history)
+    (zip_at apps histories n a history was (all.apps n (omega (arith, below, count)))))
+    ∙ same
+    ∙ sym (get_or_from_slice_get _ n (log_of run) no_log (map_at log_of runs n run at)))
 
 -- of what the plant says
 recorded_of : {A : Type 0} (reply : A → List ℕ → ℕ → List ℕ) (next : A → List ℕ → ℕ → A) (states : List A) (v : PlantView) (apps : List (LockstepApp A))

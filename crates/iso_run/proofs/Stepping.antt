@@ -1,14 +1,14 @@
 -- The apps and their ends before, in and after a step of the plant.
-use Rattle.std.proofs.Common.{◌≡◌, ℕ, ◌+◌, ◌<◌, ◌≤◌, ◌^◌, Bool, true, false, List, [], ◌∷◌, length, map, get_or, slice_get, Some, inl, inr, refl, sym, ◌∙◌, ap, subst, arith}
+use Rattle.std.proofs.Common.{◌≡◌, ℕ, ◌<◌, ◌^◌, false, List, [], length, map, slice_get, Some, inl, inr, sym, ◌∙◌, ap, subst, arith}
 use Rattle.std.specs.Prelude.{unwrap_or}
 use Rattle.std.proofs.lemmas.List.{length-map}
-use Rattle.std.proofs.lemmas.Option.{same_Some, slice_get_within, slice_get-get_or, slice_get_cases, get_or_from_slice_get, unwrap_or-slice_get}
+use Rattle.std.proofs.lemmas.Option.{same_Some, slice_get_within, slice_get_cases, get_or_from_slice_get, unwrap_or-slice_get}
 use Rattle.irt_base.specs.declared.plants.App.{App}
 use Rattle.iso_plant.specs.Replay.{PlantView, setup_in}
 use Rattle.iso_plant.specs.Step.{ServesPlant, IsFresh, Steps}
 use Rattle.iso_rules.specs.Station.{input_count, output_count}
 use Rattle.iso_rules.specs.Turns.{AppRun}
-use Rattle.iso_rules.proofs.PlayedRuns.{mapped_at, map_at}
+use Rattle.iso_rules.proofs.PlayedRuns.{map_at}
 use Rattle.plan_rules.proofs.Held.{some_at}
 use Rattle.iso_run.specs.Apps.{with_input, with_offer, IsReady}
 use Rattle.iso_run.specs.Each.{AreEach, AreReady, IsEndOf}
@@ -81,17 +81,17 @@ module _ {A : Type 0} where
       IsFresh (ends_view after)
   offered_fresh apps ends after count set =
       let one : (n : ℕ) → (takes_from (end_at after n) ≡ []) × (published_to (end_at after n) ≡ []) = λ n.
-          elim (slice_get_cases after n).1 [
-            | inl there ↦
-              let (f, within, stays, got) = there in
-              let (e, stands) = stood ends after n f set.count stays in
-              let (a, was) = stood apps ends n e count stands in
-              let is : end_at after n ≡ offered_from a.output e = at_end after n f stays ∙ set.each n e f stands stays a was in
-              fresh_end (end_at after n) (ap (λ (x : EndView). x.is_taken) is) (ap (λ (x : EndView). x.is_shown) is)
-            | inr past ↦
-              let is : end_at after n ≡ new_end 0 0 = sym (unwrap_or-slice_get after n (new_end 0 0)) ∙ ap (λ o. unwrap_or o (new_end 0 0)) past.1 in
-              fresh_end (end_at after n) (ap (λ (x : EndView). x.is_taken) is) (ap (λ (x : EndView). x.is_shown) is)
-          ] in
+      elim (slice_get_cases after n).1 [
+        | inl there ↦
+            let (f, within, stays, got) = there in
+            let (e, stands) = stood ends after n f set.count stays in
+            let (a, was) = stood apps ends n e count stands in
+            let is : end_at after n ≡ offered_from a.output e = at_end after n f stays ∙ set.each n e f stands stays a was in
+            fresh_end (end_at after n) (ap (λ (x : EndView). x.is_taken) is) (ap (λ (x : EndView). x.is_shown) is)
+        | inr past ↦
+            let is : end_at after n ≡ new_end 0 0 = sym (unwrap_or-slice_get after n (new_end 0 0)) ∙ ap (λ o. unwrap_or o (new_end 0 0)) past.1 in
+            fresh_end (end_at after n) (ap (λ (x : EndView). x.is_taken) is) (ap (λ (x : EndView). x.is_shown) is)
+      ] in
       record { takes = λ n. (one n).0; published = λ n. (one n).1 }
 
   pub offered_serve : (runs : List (AppRun A)) (v : PlantView) (apps offered : List (LockstepApp A)) (ends after : List EndView) →
@@ -100,18 +100,19 @@ module _ {A : Type 0} where
       let ready = offered_ready apps offered ends after between.ready so set in
       let run_count = run_count runs v.plant.apps between.devices in
       let one : (n : ℕ) (app : App) → slice_get v.plant.apps n ≡ Some app →
-          (length (end_at after n).offer.words ≡ output_count (setup_in v) app.device.0) × (length (end_at after n).image ≡ input_count (setup_in v) app.device.0) = λ n app is.
-          let (run, at) = stood runs v.plant.apps n app (sym run_count) is in
-          let (a, was) = stood apps runs n run (sym between.count) at in
-          let (b, now) = stood offered apps n a (sym so.count) was in
-          let (f, stands) = stood after offered n b (sym ready.count) now in
-          let device = run_device runs v.plant.apps n run app between.devices at is in
-          let widths = (between.each n run a at was).widths in
-          let same = so.each n a b was now in
-          let fit = ready.fit n b f now stands in
-          let end = at_end after n f stands in
-          (ap (λ (x : EndView). length x.offer.words) end ∙ fit.words ∙ ap (λ (x : LockstepApp A). x.output_words) same ∙ widths.output ∙ ap (output_count (setup_in v)) device,
-          ap (λ (x : EndView). length x.image) end ∙ fit.image ∙ ap (λ (x : LockstepApp A). x.input_words) same ∙ widths.input ∙ ap (input_count (setup_in v)) device) in
+      (length (end_at after n).offer.words ≡ output_count (setup_in v) app.device.0) × (length (end_at after n).image ≡ input_count (setup_in v) app.device.0) = λ n app is.
+      let (run, at) = stood runs v.plant.apps n app (sym run_count) is in
+      let (a, was) = stood apps runs n run (sym between.count) at in
+      let (b, now) = stood offered apps n a (sym so.count) was in
+      let (f, stands) = stood after offered n b (sym ready.count) now in
+      let device = run_device runs v.plant.apps n run app between.devices at is in
+      let widths = (between.each n run a at was).widths in
+      let same = so.each n a b was now in
+      let fit = ready.fit n b f now stands in
+      let end = at_end after n f stands in (
+        ap (λ (x : EndView). length x.offer.words) end ∙ fit.words ∙ ap (λ (x : LockstepApp A). x.output_words) same ∙ widths.output ∙ ap (output_count (setup_in v)) device,
+        ap (λ (x : EndView). length x.image) end ∙ fit.image ∙ ap (λ (x : LockstepApp A). x.input_words) same ∙ widths.input ∙ ap (input_count (setup_in v)) device,
+      ) in
       record {
         count = ready.count ∙ so.count ∙ between.count ∙ run_count;
         outputs = λ n app is. (one n app is).0;

@@ -3,7 +3,6 @@ use Rattle.std.specs.Prelude.{◌≡◌, ℕ, ◌^◌, ◌<◌, false, List, [],
 use Rattle.io_buffers.specs.Plain.{after_publish, after_take, first_plain, taken_from}
 use Rattle.iso_app.specs.Sealed.{sealed}
 use Rattle.iso_rules.specs.declared.turn.Turn.{Turn}
-use Rattle.iso_run.specs.Ends.{EndView, offered_from}
 use Rattle.iso_run.specs.declared.apps.LockstepApp.{LockstepApp}
 
 -- before its first turn, with so many output and input words

@@ -1,5 +1,5 @@
 -- What an app hands over in a cycle, and what is published to it.
-use Rattle.std.specs.Prelude.{ℕ, Bool, true, false, if◌then◌else◌, List, [], ◌∷◌, length, replicate, slice_index_or}
+use Rattle.std.specs.Prelude.{ℕ, Bool, true, false, if◌then◌else◌, List, [], ◌∷◌, replicate, slice_index_or}
 use Rattle.io_buffers.specs.Given.{Given, given}
 use Rattle.io_buffers.specs.Plain.{Plain, taken_from}
 

@@ -71,7 +71,8 @@ impl<A: Drop> LockstepApp<A> {
 }
 
 impl<A: IsoApp> LockstepApp<A> {
-    /// Makes a turn, which finds so many cycles done: takes from its input, and publishes the reply, sealed, to its output.
+    /// Makes a turn, which finds so many cycles done: takes from its input, and publishes the reply, sealed, to its
+    /// output.
     fn turn(&mut self, alloc: Global, found: u32) -> Result<(), NoMemory>
         requires { IsReady self.old }
         ensures { OnOk result (IsTurned A.reply A.next_state found self.old self.new) }

@@ -12,11 +12,7 @@ use std::alloc::Global;
 use std::mem;
 
 /// What a run leaves of an application. Its turns are taken out.
-fn close_app<A: Drop>(
-    alloc: Global,
-    app: &mut LockstepApp<A>,
-    history: AppHistory,
-) -> AppRecord
+fn close_app<A: Drop>(alloc: Global, app: &mut LockstepApp<A>, history: AppHistory) -> AppRecord
     ensures { result ≡ log_from app.old history }
 {
     let turns = mem::replace(&mut app.turns, Items::new(alloc));

@@ -26,7 +26,8 @@ fn run_cycle<A: IsoApp + Send, R: Threads + Sync>(
 ) -> Result<(), NoMemory>
     requires open { plant.old.done < length plant.old.world.rows }
     requires cycles { length plant.old.world.rows ≤ MAX_CYCLES }
-    requires lockstep { (states : List A) × IsInLockstep A.reply A.next_state states plant.old apps.old ends.old.ends.items }
+    requires lockstep { (states : List A) ×
+        IsInLockstep A.reply A.next_state states plant.old apps.old ends.old.ends.items }
     ensures same { IsSamePlant plant.old plant.new }
     ensures done { plant.new.done ≡ plant.old.done + 1 }
     ensures lockstep { (states : List A) →

@@ -12,8 +12,8 @@ use irt_base::memory::NoMemory;
 use std::alloc::Global;
 use std::marker::Model;
 
-/// What an app hands over in a cycle: what a take of its output gives, and the image that was last published to it. A clause
-/// sees these, and which of the two was used in the cycle.
+/// What an app hands over in a cycle: what a take of its output gives, and the image that was last published to it. A
+/// clause sees these, and which of the two was used in the cycle.
 #[derive(Drop)]
 pub struct AppEnd {
     taken: Taken,

@@ -18,7 +18,8 @@ pub fn output_lengths(
     accepted: &Accepted,
     device: DevId,
 ) -> Result<Items<u16>, NoMemory>
-    ensures { IfOk result (λ lengths. lengths ≡ output_lengths (setup_of accepted.now.plant accepted.now.bundles) device.0) }
+    ensures { IfOk result (λ lengths. lengths ≡
+        output_lengths (setup_of accepted.now.plant accepted.now.bundles) device.0) }
 {
     lengths_of(alloc, entries_at(accepted, device))
 }

@@ -20,8 +20,8 @@ use record_text::record::Record;
 use std::alloc::Global;
 use std::thread::Threads;
 
-/// Runs an accepted plan over all rows of a world, in lockstep: after each cycle every application makes one turn, side by
-/// side. `apps` are the plant's applications before their first turn, in the plant's order.
+/// Runs an accepted plan over all rows of a world, in lockstep: after each cycle every application makes one turn, side
+/// by side. `apps` are the plant's applications before their first turn, in the plant's order.
 ///
 /// # Errors
 /// `NoMemory` where memory runs out.
@@ -37,13 +37,20 @@ pub fn run_lockstep<A: IsoApp + Send, R: Threads + Sync>(
     requires world { Fits accepted.now.plant accepted.now.bundles world }
     requires cycles { length world.rows ≤ MAX_CYCLES }
     requires apps { length apps ≡ length accepted.now.plant.apps }
-    ensures { IfOk result (λ r. IsRunRecord A.reply A.next_state accepted.now.plant accepted.now.bundles routes.now.walks
-        world apps r) }
+    ensures { IfOk result (λ r. IsRunRecord A.reply A.next_state accepted.now.plant accepted.now.bundles
+        routes.now.walks world apps r) }
 {
     let cycles = world.rows.len() as u32;
     let mut plant = PlantState::new(alloc, accepted, routes, world)?;
     let Opened { mut apps, mut ends } = open_all(alloc, accepted, &plant, apps)?;
-    run_all(rt, alloc, &mut plant, apps.as_mut_slice(), &mut ends, cycles)?;
+    run_all(
+        rt,
+        alloc,
+        &mut plant,
+        apps.as_mut_slice(),
+        &mut ends,
+        cycles,
+    )?;
     let History {
         apps: histories,
         journal,

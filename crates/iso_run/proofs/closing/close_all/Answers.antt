@@ -1,4 +1,4 @@
-use Rattle.std.proofs.Common.{◌≡◌, ◌∙◌, ◌+◌, ◌<◌, ap, arith, length, map, refl, rules, slice_get, sym, take, zip, Some}
+use Rattle.std.proofs.Common.{◌≡◌, ◌∙◌, ◌+◌, ap, arith, length, map, refl, rules, slice_get, sym, take, zip, Some}
 use Rattle.std.proofs.lemmas.List.{length_push, length-set}
 use Rattle.std.proofs.lemmas.Option.{slice_get_read}
 use Rattle.std.specs.Vec.Iter.{into_iter_items}
@@ -16,15 +16,15 @@ loop-history-preserved g c =
     let pushed = c.in_ok-push.ensures.ok in
     let more : length c.push.new.self ≡ k + 1 = ap (λ l. length l) pushed ∙ length_push c.loop-history.records c.close_app.result in
     let (rest, within) = rest_next c.args.histories (into_iter_items c.loop-history.history-iterator) (into_iter_items c.next.new.self) k (length c.push.new.self)
-        c.in-Some.history next i.rest more in
+    c.in-Some.history next i.rest more in
     let number : c.len-in-loop-history.result ≡ k = search rules in
     let counted = i.count in
     let count = c.requires in
     let app = c.index_mut-app.result.now in
     let at : slice_get c.args.apps.items k ≡ Some app =
-        sym (i.same k (omega arith)) ∙ ap (slice_get c.loop-history.apps.items) (sym number)
-        ∙ slice_get_read c.loop-history.apps.items (length c.loop-history.apps.items) c.len-in-loop-history.result app refl
-          (omega (arith, within, more, number, counted, count)) c.index_mut-app.ensures.value in
+    sym (i.same k (omega arith)) ∙ ap (slice_get c.loop-history.apps.items) (sym number)
+    ∙ slice_get_read c.loop-history.apps.items (length c.loop-history.apps.items) c.len-in-loop-history.result app refl
+    (omega (arith, within, more, number, counted, count)) c.index_mut-app.ensures.value in
     record {
       within = within;
       left = (let l = ap (λ l. length l) next in let q = i.left in omega arith);

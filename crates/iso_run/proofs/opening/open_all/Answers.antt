@@ -18,7 +18,7 @@ loop-app-preserved g c =
     let pushed = c.in_ok-push.ensures.items in
     let more : length c.push.new.self.items ≡ k + 1 = ap (λ l. length l) pushed ∙ length_push c.loop-app.opened.items c.in_ok-app.app in
     let (rest, within) = rest_next c.args.apps (into_iter_items c.loop-app.app-iterator) (into_iter_items c.next.new.self) k (length c.push.new.self.items)
-        c.in-Some.app next i.rest more in
+    c.in-Some.app next i.rest more in
     let count = c.requires.apps in
     let there : k < length plant.apps = omega (arith, within, more, count) in
     let (x, is) = some_at plant.apps k there in

@@ -1,8 +1,7 @@
-use Rattle.std.proofs.Common.{rules, ◌≡◌, ◌∙◌, ap, sym, List}
-use Rattle.std.specs.Prelude.{Some, slice_get}
+use Rattle.std.proofs.Common.{◌≡◌, ◌∙◌, ap, List}
+use Rattle.std.specs.Prelude.{slice_get}
 use Rattle.irt_base.specs.declared.blocks.Bundle.{Bundle}
 use Rattle.irt_base.specs.declared.numbers.DevId.{DevId}
-use Rattle.irt_base.specs.declared.plants.App.{App}
 use Rattle.irt_base.specs.declared.plants.Plant.{Plant}
 use Rattle.iso_rules.specs.Station.{input_count, output_count, output_lengths}
 use Rattle.plan_rules.specs.Plan.{setup_of}
@@ -15,7 +14,7 @@ returns-clause-app g c = λ x is.
     let plant = c.args.accepted.now.plant in
     let bundles = c.args.accepted.now.bundles in
     let same : setup_of c.args.plant.now.plant c.args.plant.now.bundles ≡ setup_of plant bundles =
-        ap (λ (p : Plant). setup_of p c.args.plant.now.bundles) c.requires.plant ∙ ap (λ (b : List Bundle). setup_of plant b) c.requires.bundles in
+    ap (λ (p : Plant). setup_of p c.args.plant.now.bundles) c.requires.plant ∙ ap (λ (b : List Bundle). setup_of plant b) c.requires.bundles in
     let there = ap (λ (p : Plant). slice_get p.apps c.args.number) c.requires.plant ∙ is in
     opened_is (setup_of plant bundles) x.device.0 c.args.app c.in_ok-app.app c.in_ok-lengths.lengths c.output_words-output_words.result c.input_words-input_words.result
     c.in_ok-app.ensures

@@ -1,4 +1,4 @@
-use Rattle.std.proofs.Common.{◌≡◌, ◌∙◌, rules, ap, sym, arith}
+use Rattle.std.proofs.Common.{◌≡◌, ◌∙◌, rules, ap, sym}
 use Rattle.std.specs.Prelude.{Some, slice_get}
 use Rattle.iso_run.specs.Apps.{with_offer}
 use Rattle.iso_run.specs.Ends.{offered_from}
@@ -19,8 +19,8 @@ loop-index-preserved g c =
           c.loop-index.index c.args.ends.now.ends.items c.loop-index.ends.ends.items c.index_mut.result.now c.offer.new.end i.ends (search rules)
           c.index_mut.ensures.value
           (λ first a at. c.offer.ensures.end
-              ∙ ap (λ (b : LockstepApp g.row.A.Denot). offered_from b.output c.index_mut.result.now)
-              (stands (λ n a b. b ≡ with_offer a) c.loop-index.index c.args.apps.now c.loop-index.apps a app i.apps at));
+          ∙ ap (λ (b : LockstepApp g.row.A.Denot). offered_from b.output c.index_mut.result.now)
+          (stands (λ n a b. b ≡ with_offer a) c.loop-index.index c.args.apps.now c.loop-index.apps a app i.apps at));
     }
 
 pub returns-clause-apps : goal.returns-clause-apps

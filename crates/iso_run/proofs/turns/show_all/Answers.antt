@@ -10,13 +10,13 @@ use Rattle.iso_run.proofs.turns.show_all.Goals as goal
 pub show-requires-clause-words : goal.show-requires-clause-words
 show-requires-clause-words g c =
     let (ready, room, fit) = ready_here _ c.loop-index.index c.args.apps.now c.loop-index.apps c.args.ends.now.ends.items c.index-apps-index.result c.index.result.now
-        c.requires c.loop-index.invariant (search rules) c.index-apps-index.is c.index.ensures in
+    c.requires c.loop-index.invariant (search rules) c.index-apps-index.is c.index.ensures in
     fit.image ∙ sym ready.input ∙ ap (λ (b : LockstepApp g.row.A.Denot). length b.input.newest_words) c.index-apps-index.is
 
 pub show-requires-clause-room : goal.show-requires-clause-room
 show-requires-clause-room g c =
     let (ready, room, fit) = ready_here _ c.loop-index.index c.args.apps.now c.loop-index.apps c.args.ends.now.ends.items c.index-apps-index.result c.index.result.now
-        c.requires c.loop-index.invariant (search rules) c.index-apps-index.is c.index.ensures in
+    c.requires c.loop-index.invariant (search rules) c.index-apps-index.is c.index.ensures in
     subst (λ (b : LockstepApp g.row.A.Denot). b.input.newest < 2 ^ 60) c.index-apps-index.is room
 
 pub loop-index-preserved : goal.loop-index-preserved
@@ -25,9 +25,9 @@ loop-index-preserved g c =
     below_more (λ n a b. (e : EndView) → slice_get c.args.ends.now.ends.items n ≡ Some e → b ≡ with_input e.image a) c.loop-index.index
     c.args.apps.now c.loop-index.apps c.index-apps-index.result c.show.new.self c.loop-index.invariant (search rules) is
     (λ first e at. c.show.ensures
-        ∙ ap (with_input c.index.result.now.image) (sym is)
-        ∙ ap (λ (end : EndView). with_input end.image c.index-apps-index.result)
-        (c.index.ensures ∙ get_or_from_slice_get c.args.ends.now.ends.items c.loop-index.index e c.index.result.now at))
+    ∙ ap (with_input c.index.result.now.image) (sym is)
+    ∙ ap (λ (end : EndView). with_input end.image c.index-apps-index.result)
+    (c.index.ensures ∙ get_or_from_slice_get c.args.ends.now.ends.items c.loop-index.index e c.index.result.now at))
 
 pub returns : goal.returns
 returns g c = below_all _ c.loop-index.index _ _ c.loop-index.invariant (search rules)
