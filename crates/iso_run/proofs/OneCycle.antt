@@ -230,12 +230,14 @@ module _ {A : Type 0} (reply : A → List ℕ → ℕ → List ℕ) (next : A �
 
   played_on : IsLockstep reply next (setup_in new) (world_in new) states new.done next_runs
   played_on =
+      let taken = words_taken (map (λ (r : AppRun A). r.takes) (after_takes setup k runs)) in
       let more : IsLockstep reply next setup (world_in old) states (suc k) next_runs =
       played k runs image l.played
       (all_from_places _ runs (λ n run at.
-      subst (λ (s : Setup). IsImage s (world_in old) (words_taken (map (λ (r : AppRun A). r.takes) (after_takes setup k runs))) run.device k (image run.device)) same_setup
-      (subst (λ (w : List WorldRow). IsImage (setup_in new) w (words_taken (map (λ (r : AppRun A). r.takes) (after_takes setup k runs))) run.device k (image run.device)) same_world
-      (subst (λ (ts : List (List Given)). IsImage (setup_in new) (world_in new) (words_taken ts) run.device k (image run.device)) takes_are (found n run at))))) in
+      subst (λ (s : Setup). IsImage s (world_in old) taken run.device k (image run.device)) same_setup
+      (subst (λ (w : List WorldRow). IsImage (setup_in new) w taken run.device k (image run.device)) same_world
+      (subst (λ (ts : List (List Given)). IsImage (setup_in new) (world_in new) (words_taken ts) run.device k (image run.device)) takes_are
+      (found n run at))))) in
       let count : suc k ≡ new.done = omega (arith, next_done) in
       subst (λ (s : Setup). IsLockstep reply next s (world_in new) states new.done next_runs) (sym same_setup)
       (subst (λ (w : List WorldRow). IsLockstep reply next setup w states new.done next_runs) (sym same_world)
