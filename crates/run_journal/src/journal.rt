@@ -4,6 +4,7 @@ ghost use Rattle.std.specs.Prelude.{◌≡◌, ◌+◌, ◌<◌, ◌≤◌, ◌+
 ghost use Rattle.run_journal.specs.Written.{IsSortedFrom};
 
 use cycle_rows::rows::{JournalRow, sort_rows};
+use irt_base::list::Items;
 use irt_base::memory::NoMemory;
 use std::alloc::Global;
 use std::marker::Model;
@@ -45,6 +46,14 @@ impl Journal {
         ensures { result.now ≡ self.now.rows }
     {
         self.rows.as_slice()
+    }
+
+    /// The rows, given away. It takes no memory.
+    pub fn into_rows(self) -> Items<JournalRow>
+        ensures { result ≡ self.rows }
+    {
+        let Journal { rows } = self;
+        Items::from_vec(rows)
     }
 
     /// Makes room for so many more rows.
