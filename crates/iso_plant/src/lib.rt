@@ -2,4 +2,8 @@
 //! history, whatever the applications do and whoever turns them.
 #![tactic(auto)]
 
+mod cycle;
+mod exchange;
+pub mod history;
+mod made;
 pub mod plant;

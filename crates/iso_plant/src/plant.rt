@@ -5,20 +5,27 @@ ghost use Rattle.irt_base.specs.declared.limits.TheConstants.{MAX_CYCLES};
 ghost use Rattle.irt_route.specs.Routes.{IsRoutesOf};
 ghost use Rattle.irt_world.specs.Rows.{Fits};
 ghost use Rattle.irt_base.specs.declared.plants.App.{App};
+ghost use Rattle.iso_plant.specs.History.{AppCycles};
 ghost use Rattle.iso_plant.specs.Replay.{IsReplay, images_of, setup_in, takes_of};
 ghost use Rattle.iso_plant.specs.Step.{IsFresh, ServesPlant, Steps, ends_of};
 ghost use Rattle.iso_rules.specs.Station.{input_count, output_count};
 
+use crate::cycle::play_cycle;
+use crate::exchange::{publish_all, take_all};
+use crate::history::AppHistory;
+use crate::made::{new_histories, zero_images, zero_outputs};
 use cycle_rows::rows::JournalRow;
 use io_buffers::ends::Ends;
-use irt_base::blocks::Bundle;
 use irt_base::list::Items;
 use irt_base::memory::NoMemory;
-use irt_base::plants::Plant;
+use irt_base::plants::App;
+use irt_net::net::Net;
 use irt_route::tables::Routes;
 use irt_world::rows::World;
 use plan_check::accepted::Accepted;
-use record_text::record::Take;
+use plant_stations::Stations;
+use plant_stations::law::stations_fit_exchanges;
+use run_journal::journal::Journal;
 use std::alloc::Global;
 use std::marker::Model;
 
@@ -26,19 +33,15 @@ use std::marker::Model;
 /// published and written down in them.
 #[derive(Drop, Debug)]
 pub struct PlantState {
-    plant: Plant,
-    bundles: Items<Bundle>,
+    net: Net,
+    stations: Stations,
     world: World,
+    journal: Journal,
     done: u32,
-    apps: Items<AppHistory>,
-    journal: Items<JournalRow>,
-}
-
-/// What a run leaves of an app: takes of its output and images published to its input, by cycle.
-#[derive(Drop, Debug)]
-pub struct AppHistory {
-    pub takes: Items<Take>,
-    pub images: Items<Items<u64>>,
+    apps: Items<App>,
+    histories: Vec<AppHistory>,
+    outputs: Vec<Items<u64>>,
+    images: Vec<Items<u64>>,
 }
 
 /// What a run leaves: of each app, and the journal.
@@ -49,23 +52,34 @@ pub struct History {
 }
 
 impl Model for PlantState {
-    ghost use Rattle.std.specs.Prelude.{[]};
     ghost use Rattle.iso_plant.specs.Replay.{PlantView};
+    ghost use Rattle.iso_plant.specs.State.{IsState, view_of};
 
     ghost Value = { PlantView };
 
-    ghost view = { λ s. record {
-      plant = s.plant;
-      bundles = s.bundles;
-      walks = [];
+    ghost view = { λ s. view_of (record {
+      net = s.net;
+      stations = s.stations;
       world = s.world;
+      journal = s.journal;
       done = s.done;
-      takes = [];
-      images = [];
-      rows = [];
-    } };
+      apps = s.apps;
+      histories = s.histories.items;
+      outputs = s.outputs.items;
+      images = s.images.items;
+    }) };
 
-    ghost invariant = { λ s. ⊥ };
+    ghost invariant = { λ s. IsState (record {
+      net = s.net;
+      stations = s.stations;
+      world = s.world;
+      journal = s.journal;
+      done = s.done;
+      apps = s.apps;
+      histories = s.histories.items;
+      outputs = s.outputs.items;
+      images = s.images.items;
+    }) };
 }
 
 impl PlantState {
@@ -83,7 +97,27 @@ impl PlantState {
         ensures world { IfOk result (λ p. p.world ≡ world) }
         ensures done { IfOk result (λ p. p.done ≡ 0) }
     {
-        Err(NoMemory)
+        accepted.facts();
+        let net = Net::new(alloc, accepted, routes)?;
+        let stations = Stations::new(alloc, accepted.plant(), accepted.bundles())?;
+        let mut journal = Journal::new(alloc);
+        net.reserve(&mut journal, world.rows.len() as u32)?;
+        stations_fit_exchanges(&stations);
+        let apps = accepted.plant().apps.try_copy(alloc)?;
+        let histories = new_histories(alloc, accepted.plant(), accepted.bundles(), world.rows.len())?;
+        let outputs = zero_outputs(alloc, accepted.bundles())?;
+        let images = zero_images(alloc, histories.as_slice())?;
+        Ok(PlantState {
+            net,
+            stations,
+            world,
+            journal,
+            done: 0,
+            apps,
+            histories,
+            outputs,
+            images,
+        })
     }
 
     /// How many cycles are done. The plant is the replay of them.
@@ -100,7 +134,7 @@ impl PlantState {
         ensures { (a : App) → slice_get self.now.plant.apps app ≡ Some a →
             result ≡ output_count (setup_in self.now) a.device.0 }
     {
-        (self.done % 2) as u16
+        self.histories[app].output_words()
     }
 
     pub fn input_words(&self, app: usize) -> u16
@@ -108,7 +142,7 @@ impl PlantState {
         ensures { (a : App) → slice_get self.now.plant.apps app ≡ Some a →
             result ≡ input_count (setup_in self.now) a.device.0 }
     {
-        (self.done % 2) as u16
+        self.histories[app].input_words()
     }
 
     /// Plays the next cycle: takes once from each app, runs the network, and publishes once to each app. It takes no memory.
@@ -121,20 +155,38 @@ impl PlantState {
             (ends_of E.apps E.output_words E.input_words E.offers E.takes E.published ends.old)
             (ends_of E.apps E.output_words E.input_words E.offers E.takes E.published ends.new) }
     {
-        self.done = 0;
+        let k = self.done;
+        take_all(
+            self.apps.as_slice(),
+            self.histories.as_mut_slice(),
+            self.outputs.as_mut_slice(),
+            ends,
+        );
+        play_cycle(
+            &mut self.net,
+            &mut self.stations,
+            &mut self.journal,
+            k,
+            &self.world.rows[k as usize],
+            self.outputs.as_slice(),
+            self.images.as_mut_slice(),
+        );
+        publish_all(self.histories.as_mut_slice(), self.images.as_slice(), ends);
+        self.done = k + 1;
     }
 
     /// What the run has left so far.
     pub fn into_history(self) -> History
         ensures count { length result.apps ≡ length self.plant.apps }
-        ensures apps { (n : ℕ) → n < length self.plant.apps →
-            slice_get result.apps n ≡ Some (record { takes = takes_of n self; images = images_of n self }) }
+        ensures apps { (n : ℕ) (a : AppCycles) → slice_get result.apps n ≡ Some a →
+            (a.takes ≡ takes_of n self) × (a.images ≡ images_of n self) }
         ensures journal { result.journal ≡ self.rows }
         ensures replay { IsReplay self }
     {
+        let PlantState { histories, journal, .. } = self;
         History {
-            apps: self.apps,
-            journal: self.journal,
+            apps: Items::from_vec(histories),
+            journal: journal.into_rows(),
         }
     }
 }

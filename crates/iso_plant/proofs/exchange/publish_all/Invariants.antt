@@ -1,0 +1,11 @@
+use Rattle.iso_plant.proofs.Publishing.{PublishedTo}
+use Rattle.iso_plant.specs.Step.{ends_of}
+use Rattle.iso_plant.proofs.exchange.publish_all.Given as goal
+
+abbrev pub invariant-loop-index : goal.invariant-loop-index
+invariant-loop-index g l =
+    PublishedTo l.fn.histories l.images
+    (ends_of g.E.Ends.apps g.E.Ends.output_words g.E.Ends.input_words g.E.Ends.offers g.E.Ends.takes g.E.Ends.published l.fn.ends)
+    l.histories
+    (ends_of g.E.Ends.apps g.E.Ends.output_words g.E.Ends.input_words g.E.Ends.offers g.E.Ends.takes g.E.Ends.published l.ends)
+    l.index
