@@ -1,8 +1,8 @@
 -- Takes from apps, one after the other.
-use Rattle.std.proofs.Common.{◌≡◌, ◌≢◌, ◌⊎◌, ℕ, ◌+◌, ◌<◌, ◌≤◌, List, [], ◌∷◌, ◌++◌, length, slice_get, Some, inl, inr, refl, sym, ◌∙◌, ap, subst, arith}
+use Rattle.std.proofs.Common.{◌≡◌, ◌≢◌, ◌⊎◌, ℕ, ◌+◌, ◌<◌, ◌≤◌, List, [], ◌∷◌, ◌++◌, length, get_or, slice_get, Some, inl, inr, refl, sym, ◌∙◌, ap, subst, arith}
 use Rattle.std.specs.Prelude.{slice_set}
 use Rattle.std.proofs.lemmas.List.{length-set}
-use Rattle.std.proofs.lemmas.Option.{same_Some, slice_get_within}
+use Rattle.std.proofs.lemmas.Option.{get_or_from_slice_get, same_Some, slice_get-get_or, slice_get_within}
 use Rattle.irt_base.specs.declared.plants.App.{App}
 use Rattle.iso_station.proofs.Placing.{set_there, set_elsewhere}
 use Rattle.iso_plant.specs.Exchanged.{CanTake, HasNoApp, HasOutput, TakesAll}
@@ -71,6 +71,30 @@ module _ (apps : List App) (old : List AppCycles) (sent : List (List ℕ)) (befo
         published = to.published;
       }
 
+  -- the next app can be taken from
+  pub record CanTakeNext (new : List AppCycles) (outputs : List (List ℕ)) (now : EndsView) (i : ℕ) (app : App) (a : AppCycles) : Type 0 where
+    pub room : 0 < a.take_room
+    pub widths : now.output_words i ≡ a.output_words
+    pub place : HasOutput outputs app a
+
+  pub can_take_next : (new : List AppCycles) (outputs : List (List ℕ)) (now : EndsView) (i : ℕ) (app : App) (a : AppCycles) →
+      CanTake apps old sent before → TakenTo new outputs now i → slice_get apps i ≡ Some app → slice_get new i ≡ Some a →
+      CanTakeNext new outputs now i app a
+  can_take_next new outputs now i app a ready to at stands =
+      let was : slice_get old i ≡ Some a = sym (to.left i (omega arith)) ∙ stands in
+      let place = ready.places i app a at was in
+      record {
+        room = ready.room i a was;
+        widths = to.same.output_words i ∙ ready.words i a was;
+        place = record {
+          words = place.words;
+          at = to.idle app.device.0
+              (λ n other below there same. let both = ready.own n i other app there at same in omega (arith, below, both))
+              ∙ place.at;
+          count = place.count;
+        };
+      }
+
   -- one more
   pub take_step : (new : List AppCycles) (outputs : List (List ℕ)) (now next : EndsView) (i : ℕ) (app : App) (a b : AppCycles) (was out : List ℕ) →
       CanTake apps old sent before → TakenTo new outputs now i → slice_get apps i ≡ Some app → slice_get new i ≡ Some a →
@@ -119,3 +143,39 @@ module _ (apps : List App) (old : List AppCycles) (sent : List (List ℕ)) (befo
         fresh = λ n past. takes.others n (λ same. omega (arith, past, same)) ∙ to.fresh n (omega (arith, past));
         published = λ n. takes.published n ∙ to.published n;
       }
+
+  -- ---- the same where items are read by their index
+
+  module _ (new : List AppCycles) (outputs : List (List ℕ)) (now : EndsView) (i device : ℕ) (d : App) (e : AppCycles) (f : List ℕ)
+      (ready : CanTake apps old sent before) (to : TakenTo new outputs now i) (within : i < length apps)
+      (is : device ≡ (get_or apps i d).device.0) where
+    app_at : slice_get apps i ≡ Some (get_or apps i d)
+    app_at = slice_get-get_or apps i d within
+
+    stands : slice_get new i ≡ Some (get_or new i e)
+    stands = slice_get-get_or new i e (omega (arith, within, ready.count, to.count))
+
+    next : CanTakeNext new outputs now i (get_or apps i d) (get_or new i e)
+    next = can_take_next new outputs now i (get_or apps i d) (get_or new i e) ready to app_at stands
+
+    place_at : slice_get outputs device ≡ Some next.place.words
+    place_at = ap (slice_get outputs) is ∙ next.place.at
+
+    pub device_within : device < length outputs
+    device_within = slice_get_within outputs device next.place.words place_at
+
+    pub has_room : 0 < (get_or new i e).take_room
+    has_room = next.room
+
+    pub words_fit : now.output_words i ≡ (get_or new i e).output_words
+    words_fit = next.widths
+
+    pub out_fits : length (get_or outputs device f) ≡ (get_or new i e).output_words
+    out_fits = ap length (get_or_from_slice_get outputs device next.place.words f place_at) ∙ next.place.count
+
+    pub one_taken : (b : AppCycles) (out : List ℕ) (after : EndsView) → b ≡ with_take (now.offers i) (get_or new i e) →
+        length (now.offers i).words ≡ (get_or new i e).output_words → out ≡ (now.offers i).words → TakesFrom i now after →
+        TakenTo (slice_set new i b) (slice_set outputs device out) after (i + 1)
+    one_taken b out after was wide told takes =
+        subst (λ at. TakenTo (slice_set new i b) (slice_set outputs at out) after (i + 1)) (sym is)
+        (take_step new outputs now after i (get_or apps i d) (get_or new i e) b next.place.words out ready to app_at stands next.place.at was wide told takes)
