@@ -1,2 +1,4 @@
+pub mod Lists
 pub mod Taking
 pub mod Publishing
+pub mod Playing
