@@ -1,4 +1,6 @@
 pub mod Lists
+pub mod Apps
 pub mod Taking
 pub mod Publishing
 pub mod Playing
+pub mod Stepping
