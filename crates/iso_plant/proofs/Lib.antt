@@ -4,3 +4,5 @@ pub mod Taking
 pub mod Publishing
 pub mod Playing
 pub mod Stepping
+pub mod Stepped
+pub mod Handing

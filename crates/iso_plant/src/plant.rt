@@ -21,10 +21,12 @@ use irt_base::memory::NoMemory;
 use irt_base::plants::App;
 use irt_net::net::Net;
 use irt_route::tables::Routes;
+use irt_world::law::fitting_worlds_are_in_range;
 use irt_world::rows::World;
+use iso_rules::law::images_rest_on_recent_cycles;
 use plan_check::accepted::Accepted;
 use plant_stations::Stations;
-use plant_stations::law::stations_fit_exchanges;
+use plant_stations::law::{stations_fit_exchanges, stations_rest_on_done_cycles};
 use run_journal::journal::Journal;
 use std::alloc::Global;
 use std::marker::Model;
@@ -155,6 +157,9 @@ impl PlantState {
             (ends_of E.apps E.output_words E.input_words E.offers E.takes E.published ends.old)
             (ends_of E.apps E.output_words E.input_words E.offers E.takes E.published ends.new) }
     {
+        fitting_worlds_are_in_range();
+        images_rest_on_recent_cycles();
+        stations_rest_on_done_cycles(&self.stations);
         let k = self.done;
         take_all(
             self.apps.as_slice(),

@@ -1,30 +1,28 @@
-use Rattle.std.proofs.Common.{rules, ◌≡◌, ◌≤◌, ◌<◌, ℕ, IfOk, Some, length, slice_get, ◌+◌, ◌-◌, ◌*◌, ◌/◌, ◌%◌, Bool, true, false, nat_eq, nat_lt, List, [], ◌∷◌, ◌++◌, slice_index_or, slice_set, bit_and, bit_or, w8, w32, w64, Bor, MutBor}
-use Rattle.irt_base.specs.declared.limits.TheConstants.{MAX_CYCLES}
-use Rattle.irt_route.specs.Routes.{IsRoutesOf}
-use Rattle.irt_world.specs.Rows.{Fits}
-use Rattle.irt_base.specs.declared.plants.App.{App}
-use Rattle.iso_plant.specs.History.{AppCycles}
-use Rattle.iso_plant.specs.Replay.{IsReplay, images_of, setup_in, takes_of}
-use Rattle.iso_plant.specs.Step.{IsFresh, ServesPlant, Steps, ends_of}
-use Rattle.iso_rules.specs.Station.{input_count, output_count}
+use Rattle.std.proofs.Common.{◌≡◌, ◌<◌, length, sym, ◌∙◌, refl}
+use Rattle.iso_plant.proofs.Handing.{kept, next_of, play_ready, publish_ready, steps_from, takes_ready}
 use Rattle.iso_plant.proofs.plant.PlantState.step.Goals as goal
 
--- src/plant.rt:159:9
 pub take_all-requires : goal.take_all-requires
-take_all-requires g c = ?
+take_all-requires g c =
+    takes_ready _ c.self.invariant _ c.self.view_is _ c.requires.open c.requires.ends c.requires.fresh _ c.as_slice.ensures _ c.as_mut_slice.ensures.value _ c.as_mut_slice-2.ensures.value
 
--- src/plant.rt:165:9
 pub play_cycle-requires-clause-ready : goal.play_cycle-requires-clause-ready
-play_cycle-requires-clause-ready g c = ?
+play_cycle-requires-clause-ready g c =
+    let sent = kept _ _ _ _ c.as_slice-2.result.now c.self.inside.outputs.ok.0 c.as_mut_slice-2.ensures.value c.take_all.ensures.places c.as_slice-2.ensures.value in
+    play_ready _ c.self.invariant _ c.self.view_is _ c.requires.open c.requires.ends c.requires.fresh _ c.as_slice.ensures _ c.as_mut_slice.ensures.value _ c.as_mut_slice-2.ensures.value
+    c.stations_rest_on_done_cycles.ensures c.fitting_worlds_are_in_range.ensures _ _ _ c.take_all.ensures _ _ c.deref.ensures c.index-deref-k.is _ sent _ c.as_mut_slice-3.ensures.value
 
--- src/plant.rt:174:9
 pub publish_all-requires : goal.publish_all-requires
-publish_all-requires g c = ?
+publish_all-requires g c =
+    let sent = kept _ _ _ _ c.as_slice-2.result.now c.self.inside.outputs.ok.0 c.as_mut_slice-2.ensures.value c.take_all.ensures.places c.as_slice-2.ensures.value in
+    let took = kept _ _ _ _ c.as_mut_slice-4.result.now c.self.inside.histories.ok.0 c.as_mut_slice.ensures.value c.take_all.ensures.count c.as_mut_slice-4.ensures.value in
+    let shown = kept _ _ _ _ c.as_slice-3.result.now c.self.inside.images.ok.0 c.as_mut_slice-3.ensures.value c.play_cycle.auto.images c.as_slice-3.ensures.value in
+    publish_ready _ c.self.invariant _ c.self.view_is _ c.requires.open c.requires.ends c.requires.fresh _ c.as_slice.ensures _ c.as_mut_slice.ensures.value _ c.as_mut_slice-2.ensures.value
+    c.stations_rest_on_done_cycles.ensures c.fitting_worlds_are_in_range.ensures _ _ _ c.take_all.ensures _ _ c.deref.ensures c.index-deref-k.is _ sent
+    _ _ _ _ c.play_cycle.ensures.goes_on _ took _ shown
 
--- src/plant.rt:149:5
 pub invariant_of-self : goal.invariant_of-self
-invariant_of-self g c = ?
+invariant_of-self g c = let a = c.play_cycle.auto in let b = c.as_mut_slice-4.ensures in let d = c.publish_all.auto in ?
 
--- src/plant.rt:149:5
 pub returns : goal.returns
 returns g c = ?
