@@ -6,3 +6,4 @@ pub mod Playing
 pub mod Stepping
 pub mod Stepped
 pub mod Handing
+pub mod Widths

@@ -1,7 +1,6 @@
-use Rattle.std.proofs.Common.{rules}
-use Rattle.iso_plant.proofs.Apps.{app_cases}
-use Rattle.iso_plant.proofs.Stepped.{is_next}
+use Rattle.std.proofs.Common.{◌≡◌, ◌<◌, length, sym, ◌∙◌}
+use Rattle.iso_plant.proofs.Widths.{input_is}
 use Rattle.iso_plant.proofs.plant.PlantState.input_words.Goals as goal
 
 pub returns : goal.returns
-returns c a at = let x = app_cases in let y = is_next in ?
+returns c a at = input_is _ c.self.invariant _ c.self.view_is _ a _ _ c.requires at c.index.ensures c.input_words.ensures
