@@ -7,3 +7,4 @@ pub mod Stepping
 pub mod Stepped
 pub mod Handing
 pub mod Widths
+pub mod Beginning
