@@ -31,7 +31,7 @@ pub(crate) fn play_cycle(
         HasPlayed world taken loads k net.old net.new stations.new journal.old journal.new images.new }
     ensures goes_on { GoesOn k net.old net.new stations.new journal.old journal.new images.new }
 {
-    loaded_frames_are_demanded(stations);
+    loaded_frames_are_demanded();
     stations.load(k, outputs);
     net.cycle(k, row, stations.frames(), journal);
     stations.end_cycle(k, net.came(), images);

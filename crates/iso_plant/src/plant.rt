@@ -104,7 +104,7 @@ impl PlantState {
         let stations = Stations::new(alloc, accepted.plant(), accepted.bundles())?;
         let mut journal = Journal::new(alloc);
         net.reserve(&mut journal, world.rows.len() as u32)?;
-        stations_fit_exchanges(&stations);
+        stations_fit_exchanges();
         let apps = accepted.plant().apps.try_copy(alloc)?;
         let histories = new_histories(alloc, accepted.plant(), accepted.bundles(), world.rows.len())?;
         let outputs = zero_outputs(alloc, accepted.bundles())?;
@@ -159,7 +159,7 @@ impl PlantState {
     {
         fitting_worlds_are_in_range();
         images_rest_on_recent_cycles();
-        stations_rest_on_done_cycles(&self.stations);
+        stations_rest_on_done_cycles();
         let k = self.done;
         take_all(
             self.apps.as_slice(),
