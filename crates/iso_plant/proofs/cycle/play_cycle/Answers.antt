@@ -5,7 +5,7 @@ use Rattle.iso_plant.proofs.cycle.play_cycle.Goals as goal
 
 pub cycle-requires-clause-frames : goal.cycle-requires-clause-frames
 cycle-requires-clause-frames c =
-    frames_ready _ _ _ _ _ _ c.load.new.self _ c.requires.ready c.load.ensures.plant.0 c.load.ensures.plant.1 c.load.ensures.frames c.loaded_frames_are_demanded.ensures _ c.frames.ensures.value
+    frames_ready _ _ _ _ _ _ c.load.new.self _ c.requires.ready c.load.ensures.plant.0 c.load.ensures.plant.1 c.load.ensures.frames c.loaded_frames_are_demanded.ensures _ c.frames.ensures
 
 pub end_cycle-requires-clause-came : goal.end_cycle-requires-clause-came
 end_cycle-requires-clause-came c =
