@@ -1,13 +1,13 @@
 -- The widths of an app, as its history has them.
-use Rattle.std.proofs.Common.{◌≡◌, ℕ, ◌-◌, ◌<◌, List, length, get_or, Some, slice_get, sym, ◌∙◌, ap, subst, arith}
+use Rattle.std.proofs.Common.{◌≡◌, ℕ, ◌-◌, ◌<◌, List, [], length, get_or, Some, slice_get, sym, ◌∙◌, ap, subst, arith}
 use Rattle.std.proofs.lemmas.Option.{slice_get-get_or}
 use Rattle.irt_base.specs.declared.plants.App.{App}
 use Rattle.iso_rules.specs.Station.{input_count, output_count}
 use Rattle.iso_plant.specs.History.{AppCycles}
 use Rattle.iso_plant.specs.Played.{net_setup}
-use Rattle.iso_plant.specs.Replay.{PlantView, setup_in}
+use Rattle.iso_plant.specs.Replay.{PlantView, images_of, setup_in, takes_of}
 use Rattle.iso_plant.specs.State.{IsHistoryOf, IsState, Parts, view_of}
-use Rattle.iso_plant.proofs.Stepping.{histories_count}
+use Rattle.iso_plant.proofs.Stepping.{histories_count, read_map}
 
 module _ (p : Parts) (state : IsState p) where
   read_history : (n : ℕ) (app : App) (a : AppCycles) → n < length p.net.plant.apps → slice_get p.net.plant.apps n ≡ Some app → a ≡ get_or p.histories n a →
@@ -29,3 +29,18 @@ module _ (p : Parts) (state : IsState p) where
 
     pub input_is : words ≡ a.input_words → words ≡ input_count (setup_in old) app.device.0
     input_is told = told ∙ history.input_words ∙ ap (λ (v : PlantView). input_count (setup_in v) app.device.0) view_is
+
+-- ---- what a run leaves
+
+module _ (p : Parts) (state : IsState p) (old : PlantView) (view_is : view_of p ≡ old) (apps : List AppCycles) (are : apps ≡ p.histories) where
+  pub count_is : length apps ≡ length old.plant.apps
+  count_is =
+      ap length are ∙ histories_count p state ∙ ap length state.planned.apps ∙ ap (λ (v : PlantView). length v.plant.apps) view_is
+
+  pub lists_are : (n : ℕ) (a : AppCycles) → slice_get apps n ≡ Some a → (a.takes ≡ takes_of n old) × (a.images ≡ images_of n old)
+  lists_are n a at =
+      let there : slice_get p.histories n ≡ Some a = ap (λ list. slice_get list n) (sym are) ∙ at in
+      (
+        sym (read_map (λ (x : AppCycles). x.takes) p.histories n a [] there) ∙ ap (takes_of n) view_is,
+        sym (read_map (λ (x : AppCycles). x.images) p.histories n a [] there) ∙ ap (images_of n) view_is,
+      )
