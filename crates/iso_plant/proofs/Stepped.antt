@@ -265,6 +265,8 @@ module _ (p : Parts) (state : IsState p) (before : EndsView) (below : p.done < l
     done = refl;
     apps = stepped;
     ends = publishes.same.apps ∙ takes.same.apps;
+    output_words = λ n. publishes.same.output_words n ∙ takes.same.output_words n;
+    input_words = λ n. publishes.same.input_words n ∙ takes.same.input_words n;
   }
 
 -- ---- both

@@ -229,6 +229,7 @@ module _ (p : Parts) (state : IsState p) where
           taken = taken;
           loads = loads_of p;
           is = is_cycle;
+          reached = record { world = rows_of p; played = is_cycle.play; carries = state.carries };
         }
 
       module _ (net : NetState) (stations : StationsState) (journal : Written) (images : List (List ℕ))

@@ -1,7 +1,7 @@
 -- What the network and the stations of a plant make of a cycle.
 use Rattle.std.specs.Prelude.{◌≡◌, ℕ, ◌+◌, List}
 use Rattle.cycle_events.specs.Run.{IsPlayIn}
-use Rattle.irt_net.specs.Net.{Carries, HasRoomFor, IsSameNet, NetState, PlaysCycle}
+use Rattle.irt_net.specs.Net.{Carries, HasRoomFor, IsReached, IsSameNet, NetState, PlaysCycle}
 use Rattle.irt_world.specs.Rows.{IsRowOf}
 use Rattle.irt_world.specs.declared.rows.Row.{Row}
 use Rattle.net_site.specs.Site.{play_in}
@@ -44,6 +44,7 @@ pub record CanPlay (k : ℕ) (row : Row) (outputs images : List (List ℕ)) (net
   pub taken : ℕ → ℕ → List ℕ
   pub loads : Loads
   pub is : IsCycleOf world taken loads k row outputs net stations
+  pub reached : IsReached net row k
 
 -- It was: the journal has grown by its rows, and the images are those of the apps' devices.
 pub record HasPlayed (world : List WorldRow) (taken : ℕ → ℕ → List ℕ) (loads : Loads) (k : ℕ) (old new : NetState)

@@ -33,7 +33,7 @@ use std::marker::Model;
 
 /// The plant of a run. A clause sees the plan, the walks of its parcels, the world, how many cycles are done, and what was taken,
 /// published and written down in them.
-#[derive(Drop, Debug)]
+#[derive(Drop)]
 pub struct PlantState {
     net: Net,
     stations: Stations,

@@ -7,6 +7,9 @@ pub cycle-requires-clause-frames : goal.cycle-requires-clause-frames
 cycle-requires-clause-frames c =
     frames_ready _ _ _ _ _ _ c.load.new.self _ c.requires.ready c.load.ensures.plant.0 c.load.ensures.plant.1 c.load.ensures.frames c.loaded_frames_are_demanded.ensures _ c.frames.ensures
 
+pub cycle-requires-clause-reached : goal.cycle-requires-clause-reached
+cycle-requires-clause-reached c = c.requires.ready.reached
+
 pub end_cycle-requires-clause-came : goal.end_cycle-requires-clause-came
 end_cycle-requires-clause-came c =
     let ready = c.requires.ready in
