@@ -7,6 +7,7 @@ use Rattle.std.proofs.lemmas.Option.{none-some, same_Some}
 use Rattle.cycle_rows.specs.Rows.{cycle_of}
 use Rattle.cycle_rows.specs.declared.rows.JournalRow.{JournalRow}
 use Rattle.io_buffers.specs.Given.{Given}
+use Rattle.irt_base.specs.declared.numbers.DevId.{DevId}
 use Rattle.irt_base.specs.declared.plants.App.{App}
 use Rattle.irt_base.specs.declared.plants.Plant.{Plant}
 use Rattle.iso_rules.specs.Lockstep.{AppLog, RunRecord}
@@ -15,7 +16,9 @@ use Rattle.plant_rules.specs.Meets.{MeetsRules}
 use Rattle.plant_rules.specs.Words.{same_app_device}
 use Rattle.record_text.specs.Text.{record_text, rows_of_cycle}
 use Rattle.record_laws.specs.Fitting.{IsLogOf, IsRecordOf, IsRowOf}
-use Rattle.record_laws.specs.Lines.{Line, take, row, image, turn, at_place, of_turns, of_takes, of_images, of_rows, of_cycle, of_cycles, of_all_turns, lines_of, takes_in, images_in, turns_in, rows_in, cycles_in, log_in}
+use Rattle.record_laws.specs.Lines.{at_place, of_turns, of_takes, of_images, of_rows, of_cycle, of_cycles, of_all_turns, lines_of, takes_in, images_in, turns_in, rows_in, cycles_in, log_in}
+use Rattle.record_laws.specs.declared.line.Line.{Line}
+use Rattle.record_laws.specs.declared.line.Line.TheVariants as says
 use Rattle.record_laws.proofs.LineCut.{lines_same}
 use Rattle.record_laws.proofs.LinesFit.{lines_fit}
 use Rattle.record_laws.proofs.RowsFound.{rows_found}
@@ -32,7 +35,7 @@ nothing_there f [] k none = refl
 nothing_there f (x ∷ xs) zero none = none x
 nothing_there f (x ∷ xs) (suc k) none = nothing_there f xs k none
 
-nothing_of_turns : {Y : Type 0} (f : Line → List Y) (device number : ℕ) (ts : List Turn) → ((n : ℕ) (t : Turn) → f (turn device n t) ≡ []) → of_turns f device number ts ≡ []
+nothing_of_turns : {Y : Type 0} (f : Line → List Y) (device : DevId) (number : ℕ) (ts : List Turn) → ((n : ℕ) (t : Turn) → f (says.Turn device n t) ≡ []) → of_turns f device number ts ≡ []
 nothing_of_turns f device number [] none = refl
 nothing_of_turns f device number (t ∷ ts) none = (λ i. none number t i ++ nothing_of_turns f device (number + 1) ts none i)
 
@@ -46,7 +49,7 @@ pick_place : {X : Type 0} (b : Bool) (xs : List X) (k : ℕ) → at_place (λ x.
 pick_place true xs k = refl
 pick_place false xs k = nothing_there (λ x. pick false (x ∷ [])) xs k (λ x. refl)
 
-pick_turns : (device d number : ℕ) (b : Bool) (ts : List Turn) → (d == device) ≡ b → of_turns (turns_in device) d number ts ≡ pick b ts
+pick_turns : (device : ℕ) (d : DevId) (number : ℕ) (b : Bool) (ts : List Turn) → (d.0 == device) ≡ b → of_turns (turns_in device) d number ts ≡ pick b ts
 pick_turns device d number true [] is = refl
 pick_turns device d number true (t ∷ ts) is =
     ap (λ b. pick b (t ∷ []) ++ of_turns (turns_in device) d (number + 1) ts) is ∙ ap (λ xs. t ∷ xs) (pick_turns device d (number + 1) true ts is)
@@ -119,15 +122,15 @@ takes_found plant cycles r n a l differ is also count =
     f line = takes_in a.device.0 line
 
     no_turns : of_all_turns f plant r.apps ≡ []
-    no_turns = nothing (λ (p : App × AppLog). of_turns f p.0.device.0 0 p.1.turns) (zip plant.apps r.apps) (λ p. nothing_of_turns f p.0.device.0 0 p.1.turns (λ n t. refl))
+    no_turns = nothing (λ (p : App × AppLog). of_turns f p.0.device 0 p.1.turns) (zip plant.apps r.apps) (λ p. nothing_of_turns f p.0.device 0 p.1.turns (λ n t. refl))
 
     in_cycle : (k : ℕ) → of_cycle f plant r k ≡ at_place (λ g. g ∷ []) l.takes k
     in_cycle k =
         nothing_after (of_takes f plant r.apps k) (of_rows f (rows_of_cycle k r.journal)) (of_images f plant r.apps k)
-        (nothing (λ s. f (row s)) (rows_of_cycle k r.journal) (λ s. refl))
-        (nothing (λ (p : App × AppLog). at_place (λ words. f (image k p.0.device.0 words)) p.1.images k) (zip plant.apps r.apps)
-        (λ p. nothing_there (λ words. f (image k p.0.device.0 words)) p.1.images k (λ words. refl)))
-        ∙ (flat_map-same (λ (p : App × AppLog). at_place (λ g. f (take k p.0.device.0 g)) p.1.takes k)
+        (nothing (λ s. f (says.Row s)) (rows_of_cycle k r.journal) (λ s. refl))
+        (nothing (λ (p : App × AppLog). at_place (λ words. f (says.Image k p.0.device words)) p.1.images k) (zip plant.apps r.apps)
+        (λ p. nothing_there (λ words. f (says.Image k p.0.device words)) p.1.images k (λ words. refl)))
+        ∙ (flat_map-same (λ (p : App × AppLog). at_place (λ g. f (says.Take k p.0.device g)) p.1.takes k)
         (λ (p : App × AppLog). pick (p.0.device.0 == a.device.0) (at_place (λ g. g ∷ []) p.1.takes k)) (zip plant.apps r.apps)
         (λ p. pick_place (p.0.device.0 == a.device.0) p.1.takes k)
         ∙ picked plant.apps r.apps (λ (log : AppLog). at_place (λ g. g ∷ []) log.takes k) n a l differ is also)
@@ -143,40 +146,40 @@ images_found plant cycles r n a l differ is also count =
     f line = images_in a.device.0 line
 
     no_turns : of_all_turns f plant r.apps ≡ []
-    no_turns = nothing (λ (p : App × AppLog). of_turns f p.0.device.0 0 p.1.turns) (zip plant.apps r.apps) (λ p. nothing_of_turns f p.0.device.0 0 p.1.turns (λ n t. refl))
+    no_turns = nothing (λ (p : App × AppLog). of_turns f p.0.device 0 p.1.turns) (zip plant.apps r.apps) (λ p. nothing_of_turns f p.0.device 0 p.1.turns (λ n t. refl))
 
     before : (k : ℕ) → of_takes f plant r.apps k ≡ []
-    before k = nothing (λ (p : App × AppLog). at_place (λ g. f (take k p.0.device.0 g)) p.1.takes k) (zip plant.apps r.apps)
-        (λ p. nothing_there (λ g. f (take k p.0.device.0 g)) p.1.takes k (λ g. refl))
+    before k = nothing (λ (p : App × AppLog). at_place (λ g. f (says.Take k p.0.device g)) p.1.takes k) (zip plant.apps r.apps)
+        (λ p. nothing_there (λ g. f (says.Take k p.0.device g)) p.1.takes k (λ g. refl))
 
     in_cycle : (k : ℕ) → of_cycle f plant r k ≡ at_place (λ words. words ∷ []) l.images k
     in_cycle k =
-        (λ i. before k i ++ (nothing (λ s. f (row s)) (rows_of_cycle k r.journal) (λ s. refl) i ++ of_images f plant r.apps k))
-        ∙ (flat_map-same (λ (p : App × AppLog). at_place (λ words. f (image k p.0.device.0 words)) p.1.images k)
+        (λ i. before k i ++ (nothing (λ s. f (says.Row s)) (rows_of_cycle k r.journal) (λ s. refl) i ++ of_images f plant r.apps k))
+        ∙ (flat_map-same (λ (p : App × AppLog). at_place (λ words. f (says.Image k p.0.device words)) p.1.images k)
         (λ (p : App × AppLog). pick (p.0.device.0 == a.device.0) (at_place (λ words. words ∷ []) p.1.images k)) (zip plant.apps r.apps)
         (λ p. pick_place (p.0.device.0 == a.device.0) p.1.images k)
         ∙ picked plant.apps r.apps (λ (log : AppLog). at_place (λ words. words ∷ []) log.images k) n a l differ is also)
 
 -- what gives nothing of takes, rows and images gives nothing of cycles
-no_cycles : {Y : Type 0} (f : Line → List Y) (plant : Plant) (cycles : ℕ) (r : RunRecord JournalRow) → ((k d : ℕ) (g : Given) → f (take k d g) ≡ []) →
-    ((s : JournalRow) → f (row s) ≡ []) → ((k d : ℕ) (words : List ℕ) → f (image k d words) ≡ []) → of_cycles f plant cycles r ≡ []
+no_cycles : {Y : Type 0} (f : Line → List Y) (plant : Plant) (cycles : ℕ) (r : RunRecord JournalRow) → ((k : ℕ) (d : DevId) (g : Given) → f (says.Take k d g) ≡ []) →
+    ((s : JournalRow) → f (says.Row s) ≡ []) → ((k : ℕ) (d : DevId) (words : List ℕ) → f (says.Image k d words) ≡ []) → of_cycles f plant cycles r ≡ []
 no_cycles f plant cycles r takes rows images =
     nothing (λ k. of_cycle f plant r k) (range_with_len 0 cycles)
     (λ k.
     (λ i.
-    nothing (λ (p : App × AppLog). at_place (λ g. f (take k p.0.device.0 g)) p.1.takes k) (zip plant.apps r.apps)
-    (λ p. nothing_there (λ g. f (take k p.0.device.0 g)) p.1.takes k (takes k p.0.device.0)) i
-    ++ (nothing (λ s. f (row s)) (rows_of_cycle k r.journal) rows i
-    ++ nothing (λ (p : App × AppLog). at_place (λ words. f (image k p.0.device.0 words)) p.1.images k) (zip plant.apps r.apps)
-    (λ p. nothing_there (λ words. f (image k p.0.device.0 words)) p.1.images k (images k p.0.device.0)) i)))
+    nothing (λ (p : App × AppLog). at_place (λ g. f (says.Take k p.0.device g)) p.1.takes k) (zip plant.apps r.apps)
+    (λ p. nothing_there (λ g. f (says.Take k p.0.device g)) p.1.takes k (takes k p.0.device)) i
+    ++ (nothing (λ s. f (says.Row s)) (rows_of_cycle k r.journal) rows i
+    ++ nothing (λ (p : App × AppLog). at_place (λ words. f (says.Image k p.0.device words)) p.1.images k) (zip plant.apps r.apps)
+    (λ p. nothing_there (λ words. f (says.Image k p.0.device words)) p.1.images k (images k p.0.device)) i)))
 
 turns_found : (plant : Plant) (cycles : ℕ) (r : RunRecord JournalRow) (n : ℕ) (a : App) (l : AppLog) → IsDistinct same_app_device plant.apps →
     slice_get plant.apps n ≡ Some a → slice_get r.apps n ≡ Some l → flat_map (turns_in a.device.0) (lines_of plant cycles r) ≡ l.turns
 turns_found plant cycles r n a l differ is also =
     through (turns_in a.device.0) plant cycles r
     ∙ (nothing_around (of_cycles f plant cycles r) (of_all_turns f plant r.apps) [] (no_cycles f plant cycles r (λ k d g. refl) (λ s. refl) (λ k d words. refl)) refl
-    ∙ (flat_map-same (λ (p : App × AppLog). of_turns f p.0.device.0 0 p.1.turns) (λ (p : App × AppLog). pick (p.0.device.0 == a.device.0) p.1.turns) (zip plant.apps r.apps)
-    (λ p. pick_turns a.device.0 p.0.device.0 0 (p.0.device.0 == a.device.0) p.1.turns refl)
+    ∙ (flat_map-same (λ (p : App × AppLog). of_turns f p.0.device 0 p.1.turns) (λ (p : App × AppLog). pick (p.0.device.0 == a.device.0) p.1.turns) (zip plant.apps r.apps)
+    (λ p. pick_turns a.device.0 p.0.device 0 (p.0.device.0 == a.device.0) p.1.turns refl)
     ∙ picked plant.apps r.apps (λ (log : AppLog). log.turns) n a l differ is also))
   where
     f : Line → List Turn
@@ -192,8 +195,8 @@ journal_found plant cycles r fits =
     ∙ rows_found cycles r.journal fits.order (cycles_below r.journal fits.rows)))
   where
     no_turns : of_all_turns rows_in plant r.apps ≡ []
-    no_turns = nothing (λ (p : App × AppLog). of_turns rows_in p.0.device.0 0 p.1.turns) (zip plant.apps r.apps)
-        (λ p. nothing_of_turns rows_in p.0.device.0 0 p.1.turns (λ n t. refl))
+    no_turns = nothing (λ (p : App × AppLog). of_turns rows_in p.0.device 0 p.1.turns) (zip plant.apps r.apps)
+        (λ p. nothing_of_turns rows_in p.0.device 0 p.1.turns (λ n t. refl))
 
     singles : (rows : List JournalRow) → flat_map (λ s. s ∷ []) rows ≡ rows
     singles [] = refl
@@ -202,10 +205,10 @@ journal_found plant cycles r fits =
     in_cycle : (k : ℕ) → of_cycle rows_in plant r k ≡ rows_of_cycle k r.journal
     in_cycle k =
         nothing_around (of_takes rows_in plant r.apps k) (of_rows rows_in (rows_of_cycle k r.journal)) (of_images rows_in plant r.apps k)
-        (nothing (λ (p : App × AppLog). at_place (λ g. rows_in (take k p.0.device.0 g)) p.1.takes k) (zip plant.apps r.apps)
-        (λ p. nothing_there (λ g. rows_in (take k p.0.device.0 g)) p.1.takes k (λ g. refl)))
-        (nothing (λ (p : App × AppLog). at_place (λ words. rows_in (image k p.0.device.0 words)) p.1.images k) (zip plant.apps r.apps)
-        (λ p. nothing_there (λ words. rows_in (image k p.0.device.0 words)) p.1.images k (λ words. refl)))
+        (nothing (λ (p : App × AppLog). at_place (λ g. rows_in (says.Take k p.0.device g)) p.1.takes k) (zip plant.apps r.apps)
+        (λ p. nothing_there (λ g. rows_in (says.Take k p.0.device g)) p.1.takes k (λ g. refl)))
+        (nothing (λ (p : App × AppLog). at_place (λ words. rows_in (says.Image k p.0.device words)) p.1.images k) (zip plant.apps r.apps)
+        (λ p. nothing_there (λ words. rows_in (says.Image k p.0.device words)) p.1.images k (λ words. refl)))
         ∙ singles (rows_of_cycle k r.journal)
 
     cycles_below : (rows : List JournalRow) → AllByRecursion (IsRowOf plant cycles) rows → AllByRecursion (λ (s : JournalRow). cycle_of s < cycles) rows
@@ -218,8 +221,8 @@ count_found plant cycles r =
     ∙ (λ i. no_cycles cycles_in plant cycles r (λ k d g. refl) (λ s. refl) (λ k d words. refl) i ++ (no_turns i ++ cycles ∷ []))
   where
     no_turns : of_all_turns cycles_in plant r.apps ≡ []
-    no_turns = nothing (λ (p : App × AppLog). of_turns cycles_in p.0.device.0 0 p.1.turns) (zip plant.apps r.apps)
-        (λ p. nothing_of_turns cycles_in p.0.device.0 0 p.1.turns (λ n t. refl))
+    no_turns = nothing (λ (p : App × AppLog). of_turns cycles_in p.0.device 0 p.1.turns) (zip plant.apps r.apps)
+        (λ p. nothing_of_turns cycles_in p.0.device 0 p.1.turns (λ n t. refl))
 
 -- each item of one list is made of that of the other
 made_of : {A X : Type 0} (f : A → X) (items : List A) (xs : List X) → length xs ≡ length items →

@@ -7,16 +7,19 @@ use Rattle.cycle_rows.specs.declared.rows.JournalRow.{JournalRow}
 use Rattle.cycle_rows.specs.declared.rows.JournalRow.TheVariants.{Occupy, Deliver, Missed, Sent, Refused, Lost, Came}
 use Rattle.io_buffers.specs.Given.{Given, given}
 use Rattle.io_buffers.specs.declared.taken.Taken.{Taken}
+use Rattle.irt_base.specs.declared.numbers.DevId.{DevId}
 use Rattle.irt_base.specs.declared.plants.Plant.{Plant}
 use Rattle.irt_trace.specs.Journal.{begin_of, end_of_line, field, letter_of, name_of}
 use Rattle.iso_rules.specs.declared.turn.Turn.{Turn}
 use Rattle.plant_rules.specs.Meets.{MeetsRules}
 use Rattle.record_text.specs.Text.{image_line, take_line, taken_fields, turn_begin, turn_line, words_text}
 use Rattle.record_laws.specs.Fitting.{AreWords, IsTake, IsTurn}
-use Rattle.record_laws.specs.Lines.{Line, take, row, image, turn, last, last_line, line_text, IsLineOf}
+use Rattle.record_laws.specs.Lines.{last_line, line_text, IsLineOf}
+use Rattle.record_laws.specs.declared.line.Line.{Line}
+use Rattle.record_laws.specs.declared.line.Line.TheVariants as says
 use Rattle.record_laws.proofs.Fields.{at_end, at_colon, cut, field_cut, head_same, words_cut, words_end}
 use Rattle.record_laws.proofs.Names.{name-one, name-plain}
-use Rattle.record_laws.proofs.RowCut.{begin_cut, four, row_cut, taken_cut, three}
+use Rattle.record_laws.proofs.RowCut.{begin_cut, device_same, four, row_cut, taken_cut, three}
 
 -- a line of a record of fewer than 2^64 cycles
 abbrev pub FitLine : Plant → ℕ → Line → Type 0
@@ -25,18 +28,18 @@ FitLine plant cycles line = (cycles < 2 ^ 64) × IsLineOf plant cycles line
 -- ---- the letter that a line begins with
 
 abbrev first : Line → ℕ
-first (take k device g) = 103
-first (row r) = letter_of r
-first (image k device words) = 105
-first (turn device number t) = 117
-first (last cycles occupied delivered dropped) = 101
+first (says.Take k device g) = 103
+first (says.Row r) = letter_of r
+first (says.Image k device words) = 105
+first (says.Turn device number t) = 117
+first (says.Last cycles occupied delivered dropped) = 101
 
 starts : (plant : Plant) (line : Line) (x : List ℕ) → (t : List ℕ) × (line_text plant line ++ x ≡ first line ∷ t)
-starts plant (take k device g) x = (_, refl)
-starts plant (row r) x = (_, refl)
-starts plant (image k device words) x = (_, refl)
-starts plant (turn device number t) x = (_, refl)
-starts plant (last cycles occupied delivered dropped) x = (_, refl)
+starts plant (says.Take k device g) x = (_, refl)
+starts plant (says.Row r) x = (_, refl)
+starts plant (says.Image k device words) x = (_, refl)
+starts plant (says.Turn device number t) x = (_, refl)
+starts plant (says.Last cycles occupied delivered dropped) x = (_, refl)
 
 same_first : (plant : Plant) (l m : Line) (x y : List ℕ) → line_text plant l ++ x ≡ line_text plant m ++ y → first l ≡ first m
 same_first plant l m x y same =
@@ -64,25 +67,25 @@ no_row r letter same none = false_true (sym none ∙ ap is_row_letter (sym same)
 
 -- ---- lines
 
-take_cut : (plant : Plant) (k j d e : ℕ) (g h : Given) (x y : List ℕ) → MeetsRules plant → k < 2 ^ 64 → j < 2 ^ 64 → d < length plant.devices → e < length plant.devices →
-    IsTake g → IsTake h → take_line plant k d g ++ x ≡ take_line plant j e h ++ y → (take k d g ≡ take j e h) × (x ≡ y)
+take_cut : (plant : Plant) (k j : ℕ) (d e : DevId) (g h : Given) (x y : List ℕ) → MeetsRules plant → k < 2 ^ 64 → j < 2 ^ 64 → d.0 < length plant.devices → e.0 < length plant.devices →
+    IsTake g → IsTake h → take_line plant k d.0 g ++ x ≡ take_line plant j e.0 h ++ y → (says.Take k d g ≡ says.Take j e h) × (x ≡ y)
 take_cut plant k j d e g h x y rules fk fj fd fe fg fh same =
-    let (letter, cycle, device, more) = begin_cut plant 103 103 k j d e (taken_fields g.taken ++ (words_text g.words ++ 10 ∷ x)) (taken_fields h.taken ++ (words_text h.words ++ 10 ∷ y))
+    let (letter, cycle, device, more) = begin_cut plant 103 103 k j d.0 e.0 (taken_fields g.taken ++ (words_text g.words ++ 10 ∷ x)) (taken_fields h.taken ++ (words_text h.words ++ 10 ∷ y))
     rules fk fj fd fe refl refl
-    (sym (four (begin_of plant 103 k d) (taken_fields g.taken) (words_text g.words) end_of_line x) ∙ same
-    ∙ four (begin_of plant 103 j e) (taken_fields h.taken) (words_text h.words) end_of_line y) in
+    (sym (four (begin_of plant 103 k d.0) (taken_fields g.taken) (words_text g.words) end_of_line x) ∙ same
+    ∙ four (begin_of plant 103 j e.0) (taken_fields h.taken) (words_text h.words) end_of_line y) in
     let (taken, late) = taken_cut g.taken h.taken (words_text g.words ++ 10 ∷ x) (words_text h.words ++ 10 ∷ y) fg.number fh.number more in
     let (words, left) = words_cut g.words h.words (10 ∷ x) (10 ∷ y) fg.words fh.words (at_end x) (at_end y) late in
-    ((λ i. take (cycle i) (device i) (given (taken i) (words i))), (head_same 10 10 x y left).1)
+    ((λ i. says.Take (cycle i) (device_same d e device i) (given (taken i) (words i))), (head_same 10 10 x y left).1)
 
-image_cut : (plant : Plant) (k j d e : ℕ) (v w : List ℕ) (x y : List ℕ) → MeetsRules plant → k < 2 ^ 64 → j < 2 ^ 64 → d < length plant.devices → e < length plant.devices →
-    AreWords v → AreWords w → image_line plant k d v ++ x ≡ image_line plant j e w ++ y → (image k d v ≡ image j e w) × (x ≡ y)
+image_cut : (plant : Plant) (k j : ℕ) (d e : DevId) (v w : List ℕ) (x y : List ℕ) → MeetsRules plant → k < 2 ^ 64 → j < 2 ^ 64 → d.0 < length plant.devices → e.0 < length plant.devices →
+    AreWords v → AreWords w → image_line plant k d.0 v ++ x ≡ image_line plant j e.0 w ++ y → (says.Image k d v ≡ says.Image j e w) × (x ≡ y)
 image_cut plant k j d e v w x y rules fk fj fd fe fv fw same =
-    let (letter, cycle, device, more) = begin_cut plant 105 105 k j d e (words_text v ++ 10 ∷ x) (words_text w ++ 10 ∷ y)
+    let (letter, cycle, device, more) = begin_cut plant 105 105 k j d.0 e.0 (words_text v ++ 10 ∷ x) (words_text w ++ 10 ∷ y)
     rules fk fj fd fe (words_end v (10 ∷ x) (at_end x)) (words_end w (10 ∷ y) (at_end y))
-    (sym (three (begin_of plant 105 k d) (words_text v) end_of_line x) ∙ same ∙ three (begin_of plant 105 j e) (words_text w) end_of_line y) in
+    (sym (three (begin_of plant 105 k d.0) (words_text v) end_of_line x) ∙ same ∙ three (begin_of plant 105 j e.0) (words_text w) end_of_line y) in
     let (words, left) = words_cut v w (10 ∷ x) (10 ∷ y) fv fw (at_end x) (at_end y) more in
-    ((λ i. image (cycle i) (device i) (words i)), (head_same 10 10 x y left).1)
+    ((λ i. says.Image (cycle i) (device_same d e device i) (words i)), (head_same 10 10 x y left).1)
 
 abbrev turn_of : ℕ → Taken → List ℕ → List ℕ → Turn
 turn_of found taken input output = record { found = found; taken = taken; input = input; output = output }
@@ -97,13 +100,13 @@ turn_shape plant d number t x =
     five : (a b c d e x : List ℕ) → (a ++ (b ++ (c ++ (d ++ e)))) ++ x ≡ a ++ (b ++ (c ++ (d ++ (e ++ x))))
     five a b c d e x = simp append_assoc
 
-turn_cut : (plant : Plant) (d e m n : ℕ) (t u : Turn) (x y : List ℕ) → MeetsRules plant → m < 2 ^ 64 → n < 2 ^ 64 → d < length plant.devices → e < length plant.devices →
-    IsTurn t → IsTurn u → turn_line plant d m t ++ x ≡ turn_line plant e n u ++ y → (turn d m t ≡ turn e n u) × (x ≡ y)
+turn_cut : (plant : Plant) (d e : DevId) (m n : ℕ) (t u : Turn) (x y : List ℕ) → MeetsRules plant → m < 2 ^ 64 → n < 2 ^ 64 → d.0 < length plant.devices → e.0 < length plant.devices →
+    IsTurn t → IsTurn u → turn_line plant d.0 m t ++ x ≡ turn_line plant e.0 n u ++ y → (says.Turn d m t ≡ says.Turn e n u) × (x ≡ y)
 turn_cut plant d e m n t u x y rules fm fn fd fe ft fu same =
-    let begins : 117 ∷ 32 ∷ (name_of plant d ++ names) ≡ 117 ∷ 32 ∷ (name_of plant e ++ others) = sym (turn_shape plant d m t x) ∙ same ∙ turn_shape plant e n u y in
-    let after = head_same 117 117 (32 ∷ (name_of plant d ++ names)) (32 ∷ (name_of plant e ++ others)) begins in
-    let inner = head_same 32 32 (name_of plant d ++ names) (name_of plant e ++ others) after.1 in
-    let (name, a) = cut (name_of plant d) (name_of plant e) names others (name-plain plant d rules) (name-plain plant e rules) refl refl inner.1 in
+    let begins : 117 ∷ 32 ∷ (name_of plant d.0 ++ names) ≡ 117 ∷ 32 ∷ (name_of plant e.0 ++ others) = sym (turn_shape plant d.0 m t x) ∙ same ∙ turn_shape plant e.0 n u y in
+    let after = head_same 117 117 (32 ∷ (name_of plant d.0 ++ names)) (32 ∷ (name_of plant e.0 ++ others)) begins in
+    let inner = head_same 32 32 (name_of plant d.0 ++ names) (name_of plant e.0 ++ others) after.1 in
+    let (name, a) = cut (name_of plant d.0) (name_of plant e.0) names others (name-plain plant d.0 rules) (name-plain plant e.0 rules) refl refl inner.1 in
     let (number, b) = field_cut m n (field t.found ++ (taken_fields t.taken ++ words)) (field u.found ++ (taken_fields u.taken ++ wanted)) fm fn refl refl a in
     let (found, c) = field_cut t.found u.found (taken_fields t.taken ++ words) (taken_fields u.taken ++ wanted) (omega (arith, ft.found)) (omega (arith, fu.found)) refl refl b in
     let (taken, f) = taken_cut t.taken u.taken words wanted ft.number fu.number c in
@@ -112,8 +115,8 @@ turn_cut plant d e m n t u x y rules fm fn fd fe ft fu same =
     let colon = head_same 32 32 (58 ∷ (words_text t.output ++ 10 ∷ x)) (58 ∷ (words_text u.output ++ 10 ∷ y)) g in
     let (output, h) = words_cut t.output u.output (10 ∷ x) (10 ∷ y) ft.output fu.output (at_end x) (at_end y)
     (head_same 58 58 (words_text t.output ++ 10 ∷ x) (words_text u.output ++ 10 ∷ y) colon.1).1 in
-    let device = name-one plant d e rules fd fe name in
-    ((λ i. turn (device i) (number i) (turn_of (found i) (taken i) (input i) (output i))), (head_same 10 10 x y h).1)
+    let device = device_same d e (name-one plant d.0 e.0 rules fd fe name) in
+    ((λ i. says.Turn (device i) (number i) (turn_of (found i) (taken i) (input i) (output i))), (head_same 10 10 x y h).1)
   where
     words : List ℕ
     words = words_text t.input ++ (codes " :" ++ (words_text t.output ++ 10 ∷ x))
@@ -128,7 +131,7 @@ turn_cut plant d e m n t u x y rules fm fn fd fe ft fu same =
     others = field n ++ (field u.found ++ (taken_fields u.taken ++ wanted))
 
 last_cut : (a b c d e f g h : ℕ) (x y : List ℕ) → a < 2 ^ 64 → b < 2 ^ 64 → c < 2 ^ 64 → d < 2 ^ 64 → e < 2 ^ 64 → f < 2 ^ 64 → g < 2 ^ 64 → h < 2 ^ 64 →
-    last_line a b c d ++ x ≡ last_line e f g h ++ y → (last a b c d ≡ last e f g h) × (x ≡ y)
+    last_line a b c d ++ x ≡ last_line e f g h ++ y → (says.Last a b c d ≡ says.Last e f g h) × (x ≡ y)
 last_cut a b c d e f g h x y fa fb fc fd fe ff fg fh same =
     let one = append_cancel_left (codes "end") (field a ++ (field b ++ (field c ++ (field d ++ 10 ∷ x)))) (field e ++ (field f ++ (field g ++ (field h ++ 10 ∷ y))))
     (ap (λ z. codes "end" ++ z) (sym (five (field a) (field b) (field c) (field d) end_of_line x)) ∙ same
@@ -137,31 +140,31 @@ last_cut a b c d e f g h x y fa fb fc fd fe ff fg fh same =
     let (occupied, q) = field_cut b f (field c ++ (field d ++ 10 ∷ x)) (field g ++ (field h ++ 10 ∷ y)) fb ff refl refl p in
     let (delivered, r) = field_cut c g (field d ++ 10 ∷ x) (field h ++ 10 ∷ y) fc fg refl refl q in
     let (dropped, s) = field_cut d h (10 ∷ x) (10 ∷ y) fd fh refl refl r in
-    ((λ i. last (cycles i) (occupied i) (delivered i) (dropped i)), (head_same 10 10 x y s).1)
+    ((λ i. says.Last (cycles i) (occupied i) (delivered i) (dropped i)), (head_same 10 10 x y s).1)
   where
     five : (a b c d e x : List ℕ) → (a ++ (b ++ (c ++ (d ++ e)))) ++ x ≡ a ++ (b ++ (c ++ (d ++ (e ++ x))))
     five a b c d e x = simp append_assoc
 
 pub line_cut : (plant : Plant) (m n : ℕ) (l o : Line) (x y : List ℕ) → MeetsRules plant → FitLine plant m l → FitLine plant n o →
     line_text plant l ++ x ≡ line_text plant o ++ y → (l ≡ o) × (x ≡ y)
-line_cut plant m n (take k d g) (take j e h) x y rules (bm, fl) (bn, fo) same =
+line_cut plant m n (says.Take k d g) (says.Take j e h) x y rules (bm, fl) (bn, fo) same =
     take_cut plant k j d e g h x y rules (omega (arith, fl.0)) (omega (arith, fo.0)) fl.1 fo.1 fl.2 fo.2 same
-line_cut plant m n (row r) (row s) x y rules (bm, fl) (bn, fo) same =
+line_cut plant m n (says.Row r) (says.Row s) x y rules (bm, fl) (bn, fo) same =
     let (rows, left) = row_cut plant m n r s x y rules bm bn fl fo same in
-    (ap (λ t. row t) rows, left)
-line_cut plant m n (image k d v) (image j e w) x y rules (bm, fl) (bn, fo) same =
+    (ap (λ t. says.Row t) rows, left)
+line_cut plant m n (says.Image k d v) (says.Image j e w) x y rules (bm, fl) (bn, fo) same =
     image_cut plant k j d e v w x y rules (omega (arith, fl.0)) (omega (arith, fo.0)) fl.1 fo.1 fl.2 fo.2 same
-line_cut plant m n (turn d a t) (turn e b u) x y rules (bm, fl) (bn, fo) same = turn_cut plant d e a b t u x y rules fl.1 fo.1 fl.0 fo.0 fl.2 fo.2 same
-line_cut plant m n (last a b c d) (last e f g h) x y rules (bm, fl) (bn, fo) same =
+line_cut plant m n (says.Turn d a t) (says.Turn e b u) x y rules (bm, fl) (bn, fo) same = turn_cut plant d e a b t u x y rules fl.1 fo.1 fl.0 fo.0 fl.2 fo.2 same
+line_cut plant m n (says.Last a b c d) (says.Last e f g h) x y rules (bm, fl) (bn, fo) same =
     last_cut a b c d e f g h x y (omega (arith, fl.0)) fl.1 fl.2 fl.3 (omega (arith, fo.0)) fo.1 fo.2 fo.3 same
-line_cut plant m n (row r) (take k d g) x y rules fl fo same = absurd (no_row r 103 (same_first plant (row r) (take k d g) x y same) refl)
-line_cut plant m n (row r) (image k d w) x y rules fl fo same = absurd (no_row r 105 (same_first plant (row r) (image k d w) x y same) refl)
-line_cut plant m n (row r) (turn d a t) x y rules fl fo same = absurd (no_row r 117 (same_first plant (row r) (turn d a t) x y same) refl)
-line_cut plant m n (row r) (last a b c d) x y rules fl fo same = absurd (no_row r 101 (same_first plant (row r) (last a b c d) x y same) refl)
-line_cut plant m n (take k d g) (row r) x y rules fl fo same = absurd (no_row r 103 (sym (same_first plant (take k d g) (row r) x y same)) refl)
-line_cut plant m n (image k d w) (row r) x y rules fl fo same = absurd (no_row r 105 (sym (same_first plant (image k d w) (row r) x y same)) refl)
-line_cut plant m n (turn d a t) (row r) x y rules fl fo same = absurd (no_row r 117 (sym (same_first plant (turn d a t) (row r) x y same)) refl)
-line_cut plant m n (last a b c d) (row r) x y rules fl fo same = absurd (no_row r 101 (sym (same_first plant (last a b c d) (row r) x y same)) refl)
+line_cut plant m n (says.Row r) (says.Take k d g) x y rules fl fo same = absurd (no_row r 103 (same_first plant (says.Row r) (says.Take k d g) x y same) refl)
+line_cut plant m n (says.Row r) (says.Image k d w) x y rules fl fo same = absurd (no_row r 105 (same_first plant (says.Row r) (says.Image k d w) x y same) refl)
+line_cut plant m n (says.Row r) (says.Turn d a t) x y rules fl fo same = absurd (no_row r 117 (same_first plant (says.Row r) (says.Turn d a t) x y same) refl)
+line_cut plant m n (says.Row r) (says.Last a b c d) x y rules fl fo same = absurd (no_row r 101 (same_first plant (says.Row r) (says.Last a b c d) x y same) refl)
+line_cut plant m n (says.Take k d g) (says.Row r) x y rules fl fo same = absurd (no_row r 103 (sym (same_first plant (says.Take k d g) (says.Row r) x y same)) refl)
+line_cut plant m n (says.Image k d w) (says.Row r) x y rules fl fo same = absurd (no_row r 105 (sym (same_first plant (says.Image k d w) (says.Row r) x y same)) refl)
+line_cut plant m n (says.Turn d a t) (says.Row r) x y rules fl fo same = absurd (no_row r 117 (sym (same_first plant (says.Turn d a t) (says.Row r) x y same)) refl)
+line_cut plant m n (says.Last a b c d) (says.Row r) x y rules fl fo same = absurd (no_row r 101 (sym (same_first plant (says.Last a b c d) (says.Row r) x y same)) refl)
 line_cut plant m n l o x y rules fl fo same = absurd (omega (arith, same_first plant l o x y same))
 
 no_lines : (plant : Plant) (l : Line) (x : List ℕ) → [] ≡ line_text plant l ++ x → ⊥

@@ -6,6 +6,7 @@ use Rattle.std.specs.List.{AllByRecursion, flat_map, range_with_len}
 use Rattle.std.proofs.lemmas.List.Sums.{count_by-le-length}
 use Rattle.cycle_rows.specs.Rows.{cycle_of}
 use Rattle.cycle_rows.specs.declared.rows.JournalRow.{JournalRow}
+use Rattle.irt_base.specs.declared.numbers.DevId.{DevId}
 use Rattle.irt_base.specs.declared.plants.App.{App}
 use Rattle.irt_base.specs.declared.plants.Plant.{Plant}
 use Rattle.irt_trace.specs.Journal.{letter_of}
@@ -14,7 +15,8 @@ use Rattle.iso_rules.specs.declared.turn.Turn.{Turn}
 use Rattle.plant_rules.specs.Meets.{IsApp, MeetsRules}
 use Rattle.record_text.specs.Text.{lettered, rows_of_cycle}
 use Rattle.record_laws.specs.Fitting.{AreWords, IsLogOf, IsRecordOf, IsRowOf, IsTake, IsTurn}
-use Rattle.record_laws.specs.Lines.{take, row, image, at_place, of_turns, of_takes, of_images, of_rows, of_cycle, of_cycles, of_all_turns, last_of, lines_of}
+use Rattle.record_laws.specs.Lines.{at_place, of_turns, of_takes, of_images, of_rows, of_cycle, of_cycles, of_all_turns, last_of, lines_of}
+use Rattle.record_laws.specs.declared.line.Line.TheVariants as says
 use Rattle.record_laws.proofs.LineCut.{FitLine}
 
 All-more : {X : Type 0} (P : X → Type 0) (xs ys : List X) → AllByRecursion P xs → AllByRecursion P ys → AllByRecursion P (xs ++ ys)
@@ -49,7 +51,7 @@ range_fit a (suc n) = (omega arith, subst (λ m. AllByRecursion (λ k. k < m) (r
     next : (a n : ℕ) → a + 1 + n ≡ a + suc n
     next a n = omega arith
 
-turns_fit : (plant : Plant) (cycles device number : ℕ) (ts : List Turn) → cycles < 2 ^ 64 → device < length plant.devices → number + length ts < 2 ^ 64 → AllByRecursion IsTurn ts →
+turns_fit : (plant : Plant) (cycles : ℕ) (device : DevId) (number : ℕ) (ts : List Turn) → cycles < 2 ^ 64 → device.0 < length plant.devices → number + length ts < 2 ^ 64 → AllByRecursion IsTurn ts →
     AllByRecursion (FitLine plant cycles) (of_turns (λ line. line ∷ []) device number ts)
 turns_fit plant cycles device number [] few there short all = tt
 turns_fit plant cycles device number (t ∷ ts) few there short all =
@@ -69,8 +71,8 @@ lines_fit plant cycles r rules fits =
     All-more (FitLine plant cycles) (of_cycles (λ line. line ∷ []) plant cycles r) (of_all_turns (λ line. line ∷ []) plant r.apps ++ last_of cycles r.journal ∷ [])
     (All-each (FitLine plant cycles) (λ k. k < 0 + cycles) (λ k. of_cycle (λ line. line ∷ []) plant r k) (range_with_len 0 cycles) (range_fit 0 cycles) in_cycle)
     (All-more (FitLine plant cycles) (of_all_turns (λ line. line ∷ []) plant r.apps) (last_of cycles r.journal ∷ [])
-    (All-each (FitLine plant cycles) (Fit plant cycles) (λ (p : App × AppLog). of_turns (λ line. line ∷ []) p.0.device.0 0 p.1.turns) (zip plant.apps r.apps) apps
-    (λ p fit. turns_fit plant cycles p.0.device.0 0 p.1.turns few fit.0 (turn_count p.1 fit.1) fit.1.turns))
+    (All-each (FitLine plant cycles) (Fit plant cycles) (λ (p : App × AppLog). of_turns (λ line. line ∷ []) p.0.device 0 p.1.turns) (zip plant.apps r.apps) apps
+    (λ p fit. turns_fit plant cycles p.0.device 0 p.1.turns few fit.0 (turn_count p.1 fit.1) fit.1.turns))
     ((few, (fits.count, counted 111, counted 100, counted 120)), tt))
   where
     few : cycles < 2 ^ 64
@@ -89,9 +91,9 @@ lines_fit plant cycles r rules fits =
     in_cycle k early =
         let below : k < cycles = omega arith in
         All-more (FitLine plant cycles) (of_takes (λ line. line ∷ []) plant r.apps k) (of_rows (λ line. line ∷ []) (rows_of_cycle k r.journal) ++ of_images (λ line. line ∷ []) plant r.apps k)
-        (All-each (FitLine plant cycles) (Fit plant cycles) (λ (p : App × AppLog). at_place (λ g. take k p.0.device.0 g ∷ []) p.1.takes k) (zip plant.apps r.apps) apps
-        (λ p fit. All-place (FitLine plant cycles) IsTake (λ g. take k p.0.device.0 g ∷ []) p.1.takes k fit.1.takes (λ g is. ((few, (below, fit.0, is)), tt))))
+        (All-each (FitLine plant cycles) (Fit plant cycles) (λ (p : App × AppLog). at_place (λ g. says.Take k p.0.device g ∷ []) p.1.takes k) (zip plant.apps r.apps) apps
+        (λ p fit. All-place (FitLine plant cycles) IsTake (λ g. says.Take k p.0.device g ∷ []) p.1.takes k fit.1.takes (λ g is. ((few, (below, fit.0, is)), tt))))
         (All-more (FitLine plant cycles) (of_rows (λ line. line ∷ []) (rows_of_cycle k r.journal)) (of_images (λ line. line ∷ []) plant r.apps k)
-        (All-each (FitLine plant cycles) (IsRowOf plant cycles) (λ s. row s ∷ []) (rows_of_cycle k r.journal) (rows_fit plant cycles k r.journal fits.rows) (λ s is. ((few, is), tt)))
-        (All-each (FitLine plant cycles) (Fit plant cycles) (λ (p : App × AppLog). at_place (λ words. image k p.0.device.0 words ∷ []) p.1.images k) (zip plant.apps r.apps) apps
-        (λ p fit. All-place (FitLine plant cycles) AreWords (λ words. image k p.0.device.0 words ∷ []) p.1.images k fit.1.images (λ words is. ((few, (below, fit.0, is)), tt)))))
+        (All-each (FitLine plant cycles) (IsRowOf plant cycles) (λ s. says.Row s ∷ []) (rows_of_cycle k r.journal) (rows_fit plant cycles k r.journal fits.rows) (λ s is. ((few, is), tt)))
+        (All-each (FitLine plant cycles) (Fit plant cycles) (λ (p : App × AppLog). at_place (λ words. says.Image k p.0.device words ∷ []) p.1.images k) (zip plant.apps r.apps) apps
+        (λ p fit. All-place (FitLine plant cycles) AreWords (λ words. says.Image k p.0.device words ∷ []) p.1.images k fit.1.images (λ words is. ((few, (below, fit.0, is)), tt)))))

@@ -91,7 +91,7 @@ queue_cut p q a b c d x y fp fq same =
 
 -- ---- rows
 
-device_same : (d e : DevId) → d.0 ≡ e.0 → d ≡ e
+pub device_same : (d e : DevId) → d.0 ≡ e.0 → d ≡ e
 device_same d e same = ap (λ (n : ℕ). of n) same
   where
     of : ℕ → DevId

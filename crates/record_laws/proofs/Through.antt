@@ -4,11 +4,14 @@ use Rattle.std.specs.Prelude.{option_map, slice_get, unwrap_or, zip}
 use Rattle.std.specs.List.{flat_map, range_with_len}
 use Rattle.std.proofs.lemmas.Grind.{flat_map-append}
 use Rattle.cycle_rows.specs.declared.rows.JournalRow.{JournalRow}
+use Rattle.irt_base.specs.declared.numbers.DevId.{DevId}
 use Rattle.irt_base.specs.declared.plants.App.{App}
 use Rattle.irt_base.specs.declared.plants.Plant.{Plant}
 use Rattle.iso_rules.specs.Lockstep.{AppLog, RunRecord}
 use Rattle.iso_rules.specs.declared.turn.Turn.{Turn}
-use Rattle.record_laws.specs.Lines.{Line, take, row, image, turn, line_text, at_place, of_turns, of_takes, of_images, of_rows, of_cycle, of_cycles, of_all_turns, last_of, of_record, lines_of}
+use Rattle.record_laws.specs.Lines.{line_text, at_place, of_turns, of_takes, of_images, of_rows, of_cycle, of_cycles, of_all_turns, last_of, of_record, lines_of}
+use Rattle.record_laws.specs.declared.line.Line.{Line}
+use Rattle.record_laws.specs.declared.line.Line.TheVariants as says
 use Rattle.record_text.specs.Text.{record_text, rows_of_cycle, turn_line, turn_lines}
 
 one : Line → List Line
@@ -35,10 +38,10 @@ through_found : {X Y : Type 0} (f : Line → List Y) (to : X → Line) (found : 
 through_found f to (Some x) = through_one f (to x)
 through_found f to None = refl
 
-through_turns : {Y : Type 0} (f : Line → List Y) (device number : ℕ) (ts : List Turn) →
+through_turns : {Y : Type 0} (f : Line → List Y) (device : DevId) (number : ℕ) (ts : List Turn) →
     flat_map f (of_turns (λ line. line ∷ []) device number ts) ≡ of_turns f device number ts
 through_turns f device number [] = refl
-through_turns f device number (t ∷ ts) = ap (λ ys. f (turn device number t) ++ ys) (through_turns f device (number + 1) ts)
+through_turns f device number (t ∷ ts) = ap (λ ys. f (says.Turn device number t) ++ ys) (through_turns f device (number + 1) ts)
 
 through_cycle : {Y : Type 0} (f : Line → List Y) (plant : Plant) (r : RunRecord JournalRow) (k : ℕ) →
     flat_map f (of_cycle (λ line. line ∷ []) plant r k) ≡ of_cycle f plant r k
@@ -58,17 +61,17 @@ through_cycle f plant r k =
 
     takes_there : flat_map f takes ≡ of_takes f plant r.apps k
     takes_there =
-        through_each f (λ (p : App × AppLog). at_place (λ g. take k p.0.device.0 g ∷ []) p.1.takes k) (λ (p : App × AppLog). at_place (λ g. f (take k p.0.device.0 g)) p.1.takes k)
-        (zip plant.apps r.apps) (λ p. through_found f (λ g. take k p.0.device.0 g) (slice_get p.1.takes k))
+        through_each f (λ (p : App × AppLog). at_place (λ g. says.Take k p.0.device g ∷ []) p.1.takes k) (λ (p : App × AppLog). at_place (λ g. f (says.Take k p.0.device g)) p.1.takes k)
+        (zip plant.apps r.apps) (λ p. through_found f (λ g. says.Take k p.0.device g) (slice_get p.1.takes k))
 
     rows_there : flat_map f rows ≡ of_rows f (rows_of_cycle k r.journal)
-    rows_there = through_each f (λ s. row s ∷ []) (λ s. f (row s)) (rows_of_cycle k r.journal) (λ s. through_one f (row s))
+    rows_there = through_each f (λ s. says.Row s ∷ []) (λ s. f (says.Row s)) (rows_of_cycle k r.journal) (λ s. through_one f (says.Row s))
 
     images_there : flat_map f images ≡ of_images f plant r.apps k
     images_there =
-        through_each f (λ (p : App × AppLog). at_place (λ words. image k p.0.device.0 words ∷ []) p.1.images k)
-        (λ (p : App × AppLog). at_place (λ words. f (image k p.0.device.0 words)) p.1.images k)
-        (zip plant.apps r.apps) (λ p. through_found f (λ words. image k p.0.device.0 words) (slice_get p.1.images k))
+        through_each f (λ (p : App × AppLog). at_place (λ words. says.Image k p.0.device words ∷ []) p.1.images k)
+        (λ (p : App × AppLog). at_place (λ words. f (says.Image k p.0.device words)) p.1.images k)
+        (zip plant.apps r.apps) (λ p. through_found f (λ words. says.Image k p.0.device words) (slice_get p.1.images k))
 
 pub through : {Y : Type 0} (f : Line → List Y) (plant : Plant) (cycles : ℕ) (r : RunRecord JournalRow) →
     flat_map f (lines_of plant cycles r) ≡ of_record f plant cycles r
@@ -91,17 +94,17 @@ through f plant cycles r =
 
     turns_there : flat_map f turns ≡ of_all_turns f plant r.apps
     turns_there =
-        through_each f (λ (p : App × AppLog). of_turns (λ line. line ∷ []) p.0.device.0 0 p.1.turns) (λ (p : App × AppLog). of_turns f p.0.device.0 0 p.1.turns)
-        (zip plant.apps r.apps) (λ p. through_turns f p.0.device.0 0 p.1.turns)
+        through_each f (λ (p : App × AppLog). of_turns (λ line. line ∷ []) p.0.device 0 p.1.turns) (λ (p : App × AppLog). of_turns f p.0.device 0 p.1.turns)
+        (zip plant.apps r.apps) (λ p. through_turns f p.0.device 0 p.1.turns)
 
-turns_text : (plant : Plant) (device number : ℕ) (ts : List Turn) → turn_lines plant device number ts ≡ of_turns (line_text plant) device number ts
+turns_text : (plant : Plant) (device : DevId) (number : ℕ) (ts : List Turn) → turn_lines plant device.0 number ts ≡ of_turns (line_text plant) device number ts
 turns_text plant device number [] = refl
-turns_text plant device number (t ∷ ts) = ap (λ ys. turn_line plant device number t ++ ys) (turns_text plant device (number + 1) ts)
+turns_text plant device number (t ∷ ts) = ap (λ ys. turn_line plant device.0 number t ++ ys) (turns_text plant device (number + 1) ts)
 
 -- the text of a record is that of its lines
 pub lines_text : (plant : Plant) (cycles : ℕ) (r : RunRecord JournalRow) → flat_map (line_text plant) (lines_of plant cycles r) ≡ record_text plant cycles r
 lines_text plant cycles r =
     through (line_text plant) plant cycles r
     ∙ ap (λ ys. of_cycles (line_text plant) plant cycles r ++ (ys ++ line_text plant (last_of cycles r.journal)))
-    (flat_map-same (λ (p : App × AppLog). of_turns (line_text plant) p.0.device.0 0 p.1.turns) (λ (p : App × AppLog). turn_lines plant p.0.device.0 0 p.1.turns)
-    (zip plant.apps r.apps) (λ p. sym (turns_text plant p.0.device.0 0 p.1.turns)))
+    (flat_map-same (λ (p : App × AppLog). of_turns (line_text plant) p.0.device 0 p.1.turns) (λ (p : App × AppLog). turn_lines plant p.0.device.0 0 p.1.turns)
+    (zip plant.apps r.apps) (λ p. sym (turns_text plant p.0.device 0 p.1.turns)))

@@ -1,4 +1,5 @@
-//! What is known of a record whose text is known.
+//! The lines of a record's text, and what is known of a record whose text is known.
 #![tactic(auto)]
 
 pub mod law;
+pub mod line;
