@@ -46,7 +46,7 @@ cut (c ∷ a) (d ∷ b) x y pa pb ex ey same =
 
 -- ---- decimal numbers
 
-plain_more : (a b : List ℕ) → IsPlain a → IsPlain b → IsPlain (a ++ b)
+pub plain_more : (a b : List ℕ) → IsPlain a → IsPlain b → IsPlain (a ++ b)
 plain_more [] b pa pb = pb
 plain_more (c ∷ a) b pa pb = (pa.0, plain_more a b pa.1 pb)
 
@@ -66,13 +66,13 @@ field_cut m n x y fm fn ex ey same =
 
 -- ---- times
 
-plus_size : (n : ℕ) → IsTime (pos n) → n < 2 ^ 64
+pub plus_size : (n : ℕ) → IsTime (pos n) → n < 2 ^ 64
 plus_size n fits = omega (arith, ints, fits)
 
-minus_size : (n : ℕ) → IsTime (negsuc n) → suc n < 2 ^ 64
+pub minus_size : (n : ℕ) → IsTime (negsuc n) → suc n < 2 ^ 64
 minus_size n fits = omega (arith, ints, fits)
 
-time-plain : (z : ℤ) → IsTime z → IsPlain (signed_decimal z)
+pub time-plain : (z : ℤ) → IsTime z → IsPlain (signed_decimal z)
 time-plain (pos n) fits = decimal-plain n (plus_size n fits)
 time-plain (negsuc n) fits = (refl, decimal-plain (suc n) (minus_size n fits))
 
@@ -85,7 +85,7 @@ digits_more : (a b : List ℕ) → AllByRecursion (λ b. 48 ≤ b) a → AllByRe
 digits_more [] b pa pb = pb
 digits_more (c ∷ a) b pa pb = (pa.0, digits_more a b pa.1 pb)
 
-decimal-digits : (n : ℕ) → n < 2 ^ 64 → AllByRecursion (λ b. 48 ≤ b) (decimal n)
+pub decimal-digits : (n : ℕ) → n < 2 ^ 64 → AllByRecursion (λ b. 48 ≤ b) (decimal n)
 decimal-digits =
     decimal_by_steps (λ n text. AllByRecursion (λ b. 48 ≤ b) text) (λ n small. (omega arith, tt))
     (λ n text large digits. digits_more text ((48 + n % 10) ∷ []) digits (omega arith, tt))

@@ -1,8 +1,8 @@
-mod Fields
-mod Names
-mod RowCut
-mod LineCut
-mod LinesFit
-mod RowsFound
-mod Through
-mod Found
+pub mod Fields
+pub mod Names
+pub mod RowCut
+pub mod LineCut
+pub mod LinesFit
+pub mod RowsFound
+pub mod Through
+pub mod Found
