@@ -43,7 +43,7 @@ byte_taken b (c ∷ bytes) rest is =
 plain_length : (t rest : List ℕ) → IsPlain t → Ends rest → position_or_len ends_field (t ++ rest) ≡ length t
 plain_length [] [] plain ends = absurd ends
 plain_length [] (c ∷ rest) plain ends = rw ends refl
-plain_length (b ∷ t) rest plain ends = rw plain.0 (ap (λ n. suc n) (plain_length t rest plain.1 ends))
+plain_length (b ∷ t) rest plain ends = rw plain.0 (omega (arith, plain_length t rest plain.1 ends))
 
 place_found : (p : ℕ → Bool) (xs : List ℕ) → position_or_len p xs < length xs → unwrap_or (position p xs) (length xs) ≡ position_or_len p xs
 place_found p xs within = ap (λ b. unwrap_or (cond b (Some (position_or_len p xs)) None) (length xs)) (small (position_or_len p xs) (length xs) within)
@@ -157,8 +157,8 @@ flag_text b t rest is =
     elim (cases_Bool (bytes_eq t (49 ∷ []))) [
       | inl one ↦ ap (λ t. 32 ∷ (t ++ rest)) (same-bytes t (49 ∷ []) one) ∙ ap (λ b. flag_field b ++ rest) (same_Some true b (rw one at is))
       | inr other ↦
-          let (zero, same) = when_some (bytes_eq t (48 ∷ [])) false b (rw other at is) in
-          ap (λ t. 32 ∷ (t ++ rest)) (same-bytes t (48 ∷ []) zero) ∙ ap (λ b. flag_field b ++ rest) same
+          let (none, same) = when_some (bytes_eq t (48 ∷ [])) false b (rw other at is) in
+          ap (λ t. 32 ∷ (t ++ rest)) (same-bytes t (48 ∷ []) none) ∙ ap (λ b. flag_field b ++ rest) same
     ]
 
 pub flag_read-taken : (bytes : List ℕ) (y : Bool × List ℕ) → flag_read bytes ≡ Some y → bytes ≡ flag_field y.0 ++ y.1
@@ -188,31 +188,73 @@ port_read-taken bytes y is =
 
 -- ---- devices
 
-first_at : (p : Device → Bool) (devices : List Device) (n : ℕ) (d : Device) → slice_get devices n ≡ Some d → p d ≡ true → position_or_len p devices < length devices
-first_at p [] n d is passes = absurd (none-some d is)
-first_at p (e ∷ devices) zero d is passes = rw (ap p (same_Some e d is) ∙ passes) (omega arith)
-first_at p (e ∷ devices) (suc n) d is passes =
-    elim (cases_Bool (p e)) [
+abbrev name_at : List Device → ℕ → List ℕ
+name_at devices device = unwrap_or (option_map (λ (d : Device). d.name) (slice_get devices device)) []
+
+abbrev place_in : List ℕ → List Device → ℕ
+place_in name devices = position_or_len (λ (d : Device). bytes_eq d.name name) devices
+
+one_more : (n : ℕ) → suc n ≡ 1 + n
+one_more n = omega arith
+
+place_within : (name : List ℕ) (devices : List Device) (n : ℕ) → n < length devices → name_at devices n ≡ name → place_in name devices < length devices
+place_within name [] n there is = absurd (omega arith)
+place_within name (e ∷ devices) zero there is = rw (bytes-same e.name name is) (omega arith)
+place_within name (e ∷ devices) (suc n) there is =
+    elim (cases_Bool (bytes_eq e.name name)) [
       | inl here ↦ rw here (omega arith)
-      | inr later ↦ rw later (omega (arith, first_at p devices n d is passes))
+      | inr later ↦ rw later (omega (arith, place_within name devices n (omega arith) is))
     ]
 
-passes_there : (name : List ℕ) (devices : List Device) → position_or_len (λ (d : Device). bytes_eq d.name name) devices < length devices →
-    unwrap_or (option_map (λ (d : Device). d.name) (slice_get devices (position_or_len (λ (d : Device). bytes_eq d.name name) devices))) [] ≡ name
-passes_there name [] within = absurd (omega arith)
-passes_there name (e ∷ devices) within =
+named_there : (name : List ℕ) (devices : List Device) → place_in name devices < length devices → name_at devices (place_in name devices) ≡ name
+named_there name [] within = absurd (omega arith)
+named_there name (e ∷ devices) within =
     elim (cases_Bool (bytes_eq e.name name)) [
-      | inl here ↦ rw here (same-bytes e.name name here)
-      | inr later ↦ rw later (passes_there name devices (less later))
+      | inl here ↦ ap (name_at (e ∷ devices)) (first_place here) ∙ same-bytes e.name name here
+      | inr later ↦ ap (name_at (e ∷ devices)) (later_place later) ∙ named_there name devices (less later)
     ]
   where
-    less : bytes_eq e.name name ≡ false → position_or_len (λ (d : Device). bytes_eq d.name name) devices < length devices
-    less later = omega (arith, rw later at within)
+    first_place : bytes_eq e.name name ≡ true → place_in name (e ∷ devices) ≡ 0
+    first_place here = rw here refl
+
+    later_place : bytes_eq e.name name ≡ false → place_in name (e ∷ devices) ≡ suc (place_in name devices)
+    later_place later = rw later (sym (one_more (place_in name devices)))
+
+    less : bytes_eq e.name name ≡ false → place_in name devices < length devices
+    less later = omega (arith, later_place later, within)
+
+device : ℕ → DevId
+device n = record { 0 = n }
+
+abbrev found : ℕ → Option DevId
+found n = Some (record { 0 = n })
 
 pub device_read-taken : (plant : Plant) (bytes : List ℕ) (y : DevId × List ℕ) → device_read plant bytes ≡ Some y →
     (y.0.0 < length plant.devices) × (bytes ≡ 32 ∷ (name_of plant y.0.0 ++ y.1))
-device_read-taken plant bytes y is = ?
+device_read-taken plant bytes y is =
+    let f = fielded_taken (device_of_name plant) bytes y is in
+    let (n, place, same) = bind_some (position (λ (d : Device). bytes_eq d.name f.text) plant.devices) found y.0 f.value in
+    let (test, at) = when_some (nat_lt (place_in f.text plant.devices) (length plant.devices)) (place_in f.text plant.devices) n place in
+    let within = below (place_in f.text plant.devices) (length plant.devices) test in
+    let number : place_in f.text plant.devices ≡ y.0.0 = at ∙ ap (λ (o : Option DevId). unwrap_or (option_map (λ (d : DevId). d.0) o) 0) same in
+    let name : f.text ≡ name_of plant y.0.0 = sym (named_there f.text plant.devices within) ∙ ap (name_at plant.devices) number in
+    (subst (λ m. m < length plant.devices) number within, f.bytes_are ∙ ap (λ t. 32 ∷ (t ++ y.1)) name)
+  where
+    below : (m n : ℕ) → nat_lt m n ≡ true → m < n
+    below m n test = grind (arith, nat_tests)
 
 pub device_read-again : (plant : Plant) (d : DevId) (rest : List ℕ) → MeetsRules plant → d.0 < length plant.devices → Ends rest →
     device_read plant (32 ∷ (name_of plant d.0 ++ rest)) ≡ Some (d, rest)
-device_read-again plant d rest rules there ends = ?
+device_read-again plant d rest rules there ends =
+    fielded_again (device_of_name plant) (name_of plant d.0) rest d (name-plain plant d.0 rules) ends
+    (ap (λ b. cond b (Some (place_in (name_of plant d.0) plant.devices)) None >>= found) (small (place_in (name_of plant d.0) plant.devices) (length plant.devices) within)
+    ∙ ap found number)
+  where
+    within : place_in (name_of plant d.0) plant.devices < length plant.devices
+    within = place_within (name_of plant d.0) plant.devices d.0 there refl
+
+    number : place_in (name_of plant d.0) plant.devices ≡ d.0
+    number = name-one plant (place_in (name_of plant d.0) plant.devices) d.0 rules within there (named_there (name_of plant d.0) plant.devices within)
+
+    small : (m n : ℕ) → m < n → nat_lt m n ≡ true
+    small m n below = grind (arith, nat_tests)

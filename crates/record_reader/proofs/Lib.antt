@@ -1,3 +1,6 @@
 pub mod Values
 pub mod Loops
 pub mod FieldsRead
+pub mod PartsRead
+pub mod RowRead
+pub mod LineRead
