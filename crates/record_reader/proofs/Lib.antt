@@ -4,3 +4,5 @@ pub mod FieldsRead
 pub mod PartsRead
 pub mod RowRead
 pub mod LineRead
+pub mod Grown
+pub mod Growth

@@ -1,9 +1,10 @@
 //! The record of a run, read from its text.
 #![tactic(auto)]
 
+mod draft;
 pub mod fault;
 mod field;
-
 mod lines;
+mod place;
 mod row;
 mod words;

@@ -1,2 +1,3 @@
 pub mod Cursor
+pub mod Grown
 pub mod Text

@@ -25,12 +25,13 @@ fn is_row_of(rows: &[JournalRow], at: usize, k: u32) -> bool
     ensures { result ≡ is_row_of rows.now at k }
 {
     match rows.get(at) {
-        Some(row) => cycle(*row) == k,
+        Some(row) => cycle_of(*row) == k,
         None => false,
     }
 }
 
-fn cycle(row: JournalRow) -> u32
+/// The cycle of a row.
+pub fn cycle_of(row: JournalRow) -> u32
     ensures { result ≡ cycle_of row }
 {
     match row {

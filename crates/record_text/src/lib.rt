@@ -10,4 +10,5 @@ pub mod part;
 mod print;
 pub mod record;
 
-pub use print::print_record;
+pub use cursor::cycle_of;
+pub use print::{lettered, print_record};

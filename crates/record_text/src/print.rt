@@ -94,7 +94,7 @@ fn put_end(out: &mut Vec<u8>, cycles: u32, rows: &[JournalRow]) -> Result<(), No
 }
 
 /// How many rows have a letter.
-fn lettered(letter: u8, rows: &[JournalRow]) -> u64
+pub fn lettered(letter: u8, rows: &[JournalRow]) -> u64
     ensures { result ≡ lettered letter rows.now }
 {
     rows.iter().filter(|row| letter_of(**row) == letter).count() as u64

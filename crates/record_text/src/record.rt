@@ -1,10 +1,12 @@
 //! What a run leaves behind.
 
-ghost use Rattle.std.specs.Prelude.{◌≡◌};
+ghost use Rattle.std.specs.Prelude.{◌≡◌, OnOk};
+ghost use Rattle.record_text.specs.Grown.{with_image, with_take, with_turn};
 
 use cycle_rows::rows::JournalRow;
 use io_buffers::taken::Taken;
 use irt_base::list::Items;
+use irt_base::memory::NoMemory;
 use iso_rules::turn::Turn;
 use std::marker::Model;
 
@@ -71,6 +73,30 @@ impl AppRecord {
             images,
             turns,
         }
+    }
+
+    /// Adds a take.
+    pub fn push_take(&mut self, take: Take) -> Result<(), NoMemory>
+        ensures { OnOk result (self.new ≡ with_take self.old take) }
+    {
+        self.takes.push(take)?;
+        Ok(())
+    }
+
+    /// Adds an image.
+    pub fn push_image(&mut self, words: Items<u64>) -> Result<(), NoMemory>
+        ensures { OnOk result (self.new ≡ with_image self.old words) }
+    {
+        self.images.push(words)?;
+        Ok(())
+    }
+
+    /// Adds a turn.
+    pub fn push_turn(&mut self, turn: Turn) -> Result<(), NoMemory>
+        ensures { OnOk result (self.new ≡ with_turn self.old turn) }
+    {
+        self.turns.push(turn)?;
+        Ok(())
     }
 
     /// The takes of its output, by cycle.
