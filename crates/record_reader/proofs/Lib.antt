@@ -6,3 +6,4 @@ pub mod RowRead
 pub mod LineRead
 pub mod Grown
 pub mod Growth
+pub mod Added
