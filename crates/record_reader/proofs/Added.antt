@@ -65,7 +65,7 @@ rows_none (s ∷ rows) k j before past = rw (differ (cycle_of s) j (omega (arith
     differ : (m n : ℕ) → m < n → (m == n) ≡ false
     differ m n below = grind (arith, nat_tests)
 
-turns_none : (plant : Plant) (apps : List AppLog) → Few turns_count 0 apps → of_all_turns one plant apps ≡ []
+pub turns_none : (plant : Plant) (apps : List AppLog) → Few turns_count 0 apps → of_all_turns one plant apps ≡ []
 turns_none plant apps few =
     zip_none (λ (p : App × AppLog). of_turns one p.0.device 0 p.1.turns) plant.apps apps
     (λ m a l is also. empty a l.turns (few m l also))
@@ -74,7 +74,7 @@ turns_none plant apps few =
     empty a [] none = refl
     empty a (t ∷ ts) none = absurd (omega arith)
 
-cycle_none : (plant : Plant) (apps : List AppLog) (rows : List JournalRow) (k j : ℕ) → Few takes_count j apps → Few images_count j apps → Before k rows → k ≤ j →
+pub cycle_none : (plant : Plant) (apps : List AppLog) (rows : List JournalRow) (k j : ℕ) → Few takes_count j apps → Few images_count j apps → Before k rows → k ≤ j →
     of_cycle one plant (record_of apps rows) j ≡ []
 cycle_none plant apps rows k j takes images before past =
     (λ i. takes_none plant apps j takes i ++ (of_rows one (rows_none rows k j before past i) ++ images_none plant apps j images i))

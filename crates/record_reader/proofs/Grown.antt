@@ -34,10 +34,10 @@ last_follows (t ∷ u ∷ rows) r s is = last_follows (u ∷ rows) r s (is ∙ a
 
 -- ---- the log of the app on a device
 
-abbrev app_at : List App → ℕ → ℕ
+abbrev pub app_at : List App → ℕ → ℕ
 app_at apps device = position_or_len (λ (a : App). a.device.0 == device) apps
 
-logged : (apps : List App) (device : ℕ) (change : AppLog → AppLog) (logs : List AppLog) (old : AppLog) → app_at apps device < length apps →
+pub logged : (apps : List App) (device : ℕ) (change : AppLog → AppLog) (logs : List AppLog) (old : AppLog) → app_at apps device < length apps →
     length logs ≡ length apps → old ≡ get_or logs (app_at apps device) old → set logs (app_at apps device) (change old) ≡ with_log apps device change logs
 logged [] device change logs old there count is = absurd (omega arith)
 logged (a ∷ apps) device change [] old there count is = absurd (omega arith)
@@ -70,7 +70,7 @@ unchanged (a ∷ apps) device change (l ∷ logs) count none =
           ∙ sym (ap (λ b. if b then change l ∷ logs else l ∷ with_log apps device change logs) other)
     ]
 
-found_within : (m n i : ℕ) → cond (nat_lt m n) (Some m) None ≡ Some i → (m < n) × (m ≡ i)
+pub found_within : (m n i : ℕ) → cond (nat_lt m n) (Some m) None ≡ Some i → (m < n) × (m ≡ i)
 found_within m n i is =
     elim (cases_Bool (nat_lt m n)) [
       | inl small ↦ (below m n small, same_Some m i (rw small at is))
@@ -112,7 +112,7 @@ length-logs_in plant lines = counted plant.apps
     counted [] = refl
     counted (a ∷ apps) = ap (λ n. suc n) (counted apps)
 
-one_more_line : {X : Type 0} (f : Line → List X) (lines : List Line) (line : Line) → flat_map f (lines ++ line ∷ []) ≡ flat_map f lines ++ f line
+pub one_more_line : {X : Type 0} (f : Line → List X) (lines : List Line) (line : Line) → flat_map f (lines ++ line ∷ []) ≡ flat_map f lines ++ f line
 one_more_line f lines line = flat_map-append f lines (line ∷ []) ∙ ap (λ xs. flat_map f lines ++ xs) (append-nil (f line))
 
 abbrev log_of : List Given → List (List ℕ) → List Turn → AppLog

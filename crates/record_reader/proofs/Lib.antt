@@ -7,3 +7,5 @@ pub mod LineRead
 pub mod Grown
 pub mod Growth
 pub mod Added
+pub mod Shape
+pub mod Held
