@@ -19,16 +19,16 @@ use Rattle.record_laws.specs.Lines.{at_place, of_turns, of_takes, of_images, of_
 use Rattle.record_laws.specs.declared.line.Line.TheVariants as says
 use Rattle.record_laws.proofs.LineCut.{FitLine}
 
-All-more : {X : Type 0} (P : X → Type 0) (xs ys : List X) → AllByRecursion P xs → AllByRecursion P ys → AllByRecursion P (xs ++ ys)
+pub All-more : {X : Type 0} (P : X → Type 0) (xs ys : List X) → AllByRecursion P xs → AllByRecursion P ys → AllByRecursion P (xs ++ ys)
 All-more P [] ys all more = more
 All-more P (x ∷ xs) ys all more = (all.0, All-more P xs ys all.1 more)
 
-All-each : {X Y : Type 0} (P : Y → Type 0) (Q : X → Type 0) (f : X → List Y) (xs : List X) → AllByRecursion Q xs → ((x : X) → Q x → AllByRecursion P (f x)) →
+pub All-each : {X Y : Type 0} (P : Y → Type 0) (Q : X → Type 0) (f : X → List Y) (xs : List X) → AllByRecursion Q xs → ((x : X) → Q x → AllByRecursion P (f x)) →
     AllByRecursion P (flat_map f xs)
 All-each P Q f [] all each = tt
 All-each P Q f (x ∷ xs) all each = All-more P (f x) (flat_map f xs) (each x all.0) (All-each P Q f xs all.1 each)
 
-All-place : {X Y : Type 0} (P : Y → Type 0) (Q : X → Type 0) (f : X → List Y) (xs : List X) (k : ℕ) → AllByRecursion Q xs → ((x : X) → Q x → AllByRecursion P (f x)) →
+pub All-place : {X Y : Type 0} (P : Y → Type 0) (Q : X → Type 0) (f : X → List Y) (xs : List X) (k : ℕ) → AllByRecursion Q xs → ((x : X) → Q x → AllByRecursion P (f x)) →
     AllByRecursion P (at_place f xs k)
 All-place P Q f [] k all each = tt
 All-place P Q f (x ∷ xs) zero all each = each x all.0
@@ -44,7 +44,7 @@ apps_fit plant cycles [] logs fa fl = tt
 apps_fit plant cycles (a ∷ apps) [] fa fl = tt
 apps_fit plant cycles (a ∷ apps) (l ∷ logs) fa fl = ((fa.0, fl.0), apps_fit plant cycles apps logs fa.1 fl.1)
 
-range_fit : (a n : ℕ) → AllByRecursion (λ k. k < a + n) (range_with_len a n)
+pub range_fit : (a n : ℕ) → AllByRecursion (λ k. k < a + n) (range_with_len a n)
 range_fit a zero = tt
 range_fit a (suc n) = (omega arith, subst (λ m. AllByRecursion (λ k. k < m) (range_with_len (a + 1) n)) (next a n) (range_fit (a + 1) n))
   where
@@ -57,7 +57,7 @@ turns_fit plant cycles device number [] few there short all = tt
 turns_fit plant cycles device number (t ∷ ts) few there short all =
     ((few, (there, omega arith, all.0)), turns_fit plant cycles device (number + 1) ts few there (omega arith) all.1)
 
-rows_fit : (plant : Plant) (cycles k : ℕ) (rows : List JournalRow) → AllByRecursion (IsRowOf plant cycles) rows → AllByRecursion (IsRowOf plant cycles) (rows_of_cycle k rows)
+pub rows_fit : (plant : Plant) (cycles k : ℕ) (rows : List JournalRow) → AllByRecursion (IsRowOf plant cycles) rows → AllByRecursion (IsRowOf plant cycles) (rows_of_cycle k rows)
 rows_fit plant cycles k [] all = tt
 rows_fit plant cycles k (r ∷ rows) all =
     elim (cases_Bool (cycle_of r == k)) [

@@ -9,3 +9,6 @@ pub mod Growth
 pub mod Added
 pub mod Shape
 pub mod Held
+pub mod Runs
+pub mod Complete
+pub mod Kept

@@ -123,7 +123,7 @@ other_before a e [] n others is = absurd (none-some e is)
 other_before a e (f ∷ apps) zero others is = ap (same_app_device a) (sym (same_Some f e is)) ∙ others.0
 other_before a e (f ∷ apps) (suc n) others is = other_before a e apps n others.1 is
 
-app_place : (apps : List App) (n : ℕ) (a : App) → IsDistinct same_app_device apps → slice_get apps n ≡ Some a → app_at apps a.device.0 ≡ n
+pub app_place : (apps : List App) (n : ℕ) (a : App) → IsDistinct same_app_device apps → slice_get apps n ≡ Some a → app_at apps a.device.0 ≡ n
 unfolding IsDistinct
 app_place [] n a differ is = absurd (none-some a is)
 app_place (e ∷ apps) zero a differ is = rw (ap (λ (b : App). b.device.0 == a.device.0) (same_Some e a is) ∙ itself a.device.0) refl

@@ -4,3 +4,4 @@ pub mod Order
 pub mod Steps
 pub mod Grow
 pub mod Whole
+pub mod Ends

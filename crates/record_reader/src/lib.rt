@@ -6,5 +6,8 @@ pub mod fault;
 mod field;
 mod lines;
 mod place;
+mod reading;
 mod row;
 mod words;
+
+pub use reading::read_record;
