@@ -27,14 +27,14 @@ FitLine plant cycles line = (cycles < 2 ^ 64) × IsLineOf plant cycles line
 
 -- ---- the letter that a line begins with
 
-abbrev first : Line → ℕ
+abbrev pub first : Line → ℕ
 first (says.Take k device g) = 103
 first (says.Row r) = letter_of r
 first (says.Image k device words) = 105
 first (says.Turn device number t) = 117
 first (says.Last cycles occupied delivered dropped) = 101
 
-starts : (plant : Plant) (line : Line) (x : List ℕ) → (t : List ℕ) × (line_text plant line ++ x ≡ first line ∷ t)
+pub starts : (plant : Plant) (line : Line) (x : List ℕ) → (t : List ℕ) × (line_text plant line ++ x ≡ first line ∷ t)
 starts plant (says.Take k device g) x = (_, refl)
 starts plant (says.Row r) x = (_, refl)
 starts plant (says.Image k device words) x = (_, refl)

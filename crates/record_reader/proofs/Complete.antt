@@ -55,12 +55,12 @@ rows_of_each : {X : Type 0} (f : X → List Line) (xs : List X) → ((x : X) →
 rows_of_each f [] none = refl
 rows_of_each f (x ∷ xs) none = flat_map-append rows_in (f x) (flat_map f xs) ∙ (λ i. none x i ++ rows_of_each f xs none i)
 
-no_rows_of_takes : (k : ℕ) (apps : List App) (logs : List AppLog) → flat_map rows_in (takes_lines k apps logs) ≡ []
+pub no_rows_of_takes : (k : ℕ) (apps : List App) (logs : List AppLog) → flat_map rows_in (takes_lines k apps logs) ≡ []
 no_rows_of_takes k apps logs =
     rows_of_each (λ (p : App × AppLog). at_place (λ g. one (says.Take k p.0.device g)) p.1.takes k) (zip apps logs)
     (λ p. rows_of_place (λ g. one (says.Take k p.0.device g)) p.1.takes k (λ g. refl))
 
-no_rows_of_images : (k : ℕ) (apps : List App) (logs : List AppLog) → flat_map rows_in (images_lines k apps logs) ≡ []
+pub no_rows_of_images : (k : ℕ) (apps : List App) (logs : List AppLog) → flat_map rows_in (images_lines k apps logs) ≡ []
 no_rows_of_images k apps logs =
     rows_of_each (λ (p : App × AppLog). at_place (λ words. one (says.Image k p.0.device words)) p.1.images k) (zip apps logs)
     (λ p. rows_of_place (λ words. one (says.Image k p.0.device words)) p.1.images k (λ words. refl))
@@ -74,7 +74,7 @@ no_rows_of_turns plant logs =
     of_app device number (t ∷ ts) = of_app device (number + 1) ts
 
 -- rows that follow lines without any
-with_none : (rows : List JournalRow) (lines : List Line) → flat_map rows_in lines ≡ [] → rows ++ flat_map rows_in lines ≡ rows
+pub with_none : (rows : List JournalRow) (lines : List Line) → flat_map rows_in lines ≡ [] → rows ++ flat_map rows_in lines ≡ rows
 with_none rows lines none = ap (λ xs. rows ++ xs) none ∙ append-nil rows
 
 -- ---- a cycle
@@ -220,7 +220,7 @@ journal_rows plant cycles r whole = rows_found cycles r.journal whole.fits.order
 rows_before : (plant : Plant) (cycles : ℕ) (r : RunRecord JournalRow) → IsWholeRecord plant cycles r → flat_map rows_in (of_cycles one plant cycles r) ≡ r.journal
 rows_before plant cycles r whole = rows_of_cycles plant r 0 cycles ∙ journal_rows plant cycles r whole
 
-last_run : (plant : Plant) (rows : List JournalRow) (place : Place) (cycles : ℕ) → next plant rows place (last_of cycles rows) ≡ Some (Done cycles) → run plant rows place (last_of cycles rows ∷ []) ≡ Some (Done cycles)
+pub last_run : (plant : Plant) (rows : List JournalRow) (place : Place) (cycles : ℕ) → next plant rows place (last_of cycles rows) ≡ Some (Done cycles) → run plant rows place (last_of cycles rows ∷ []) ≡ Some (Done cycles)
 last_run plant rows place cycles step = ap (λ (o : Option Place). o >>= λ p. run plant (rows ++ []) p []) step
 
 whole_run : (plant : Plant) (cycles : ℕ) (r : RunRecord JournalRow) → MeetsRules plant → IsWholeRecord plant cycles r → 0 < length plant.apps →

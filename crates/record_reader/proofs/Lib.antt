@@ -12,3 +12,5 @@ pub mod Held
 pub mod Runs
 pub mod Complete
 pub mod Kept
+pub mod Viable
+pub mod Feeds
