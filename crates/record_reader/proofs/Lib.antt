@@ -14,3 +14,4 @@ pub mod Complete
 pub mod Kept
 pub mod Viable
 pub mod Feeds
+pub mod Reader
