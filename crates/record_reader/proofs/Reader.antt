@@ -20,7 +20,7 @@ use Rattle.record_laws.proofs.LinesFit.{All-more}
 use Rattle.record_laws.proofs.Through.{lines_text}
 use Rattle.record_text.specs.Text.{record_text, run_of}
 use Rattle.record_text.specs.declared.record.Record.{Record}
-use Rattle.record_reader.specs.Ends.{EndsAt}
+use Rattle.record_reader.specs.Ends.{EndsAt, GivesPlace, IsUnread}
 use Rattle.record_reader.specs.Grow.{logs_in, with_line}
 use Rattle.record_reader.specs.Reading.{◌>>=◌, line_read}
 use Rattle.record_reader.specs.Right.{IsRightLine}
@@ -82,6 +82,12 @@ read_more plant text logs new rows later place after rest left line said rules r
       rows_are = more ∙ (ap (λ rs. rs ++ rows_in said) read.rows_are ∙ sym (one_more_line rows_in read.lines said));
     }
 
+more_than_none : (n : ℕ) → (n == 0) ≡ false → 0 < n
+more_than_none n test = grind (arith, nat_tests)
+
+none_left : (n : ℕ) → (n == 0) ≡ true → n ≡ 0
+none_left n test = grind (arith, nat_tests)
+
 some_text : (plant : Plant) (l : Line) → 0 < length (line_text plant l)
 some_text plant l =
     let (t, begins) = starts plant l [] in
@@ -97,9 +103,9 @@ lines_short plant [] = omega arith
 lines_short plant (l ∷ lines) = omega (arith, lines_short plant lines, length-append (line_text plant l) (texts plant lines), some_text plant l)
 
 pub read_few : (plant : Plant) (text : List ℕ) (logs : List AppLog) (rows : List JournalRow) (place : Place) (rest : List ℕ) (line : ℕ) → IsReadTo plant text logs rows place rest line →
-    line ≤ length text + 1
-read_few plant text logs rows place rest line read =
-    omega (arith, read.at, lines_short plant read.lines, ap length read.parts, length-append (texts plant read.lines) rest)
+    (length rest == 0) ≡ false → line ≤ length text
+read_few plant text logs rows place rest line read some =
+    omega (arith, read.at, lines_short plant read.lines, ap length read.parts, length-append (texts plant read.lines) rest, more_than_none (length rest) some)
 
 rows_few : (lines : List Line) → length (flat_map rows_in lines) ≤ length lines
 rows_few [] = omega arith
@@ -357,3 +363,30 @@ pub only_answer : (plant : Plant) (text : List ℕ) (result : Result Record Reco
 only_answer plant text (Ok found) rules whole refused cycles r is = record_found plant found.cycles cycles (run_of found) r rules whole.whole.fits is.whole.fits (sym whole.is ∙ is.is)
 only_answer plant text (Err faults.NoMemory) rules whole refused cycles r is = refl
 only_answer plant text (Err (faults.Line line)) rules whole refused cycles r is = absurd (not_both plant text line cycles r refused is)
+
+-- ---- what is answered
+
+pub said_fault : (plant : Plant) (text : List ℕ) (logs : List AppLog) (rows : List JournalRow) (place : Place) (rest : List ℕ) (line : ℕ) (result : Result Record RecordFault)
+    (e f : RecordFault) → MeetsRules plant → length text < 2 ^ 32 - 1 → IsReadTo plant text logs rows place rest line → (length rest == 0) ≡ false → result ≡ Err e → e ≡ f →
+    IsUnread line f (line_read plant rest) → IfErr result (IsRefusal plant text)
+said_fault plant text logs rows place rest line result e faults.NoMemory rules short read some is same gives = rw (is, same) tt
+said_fault plant text logs rows place rest line result e (faults.Line n) rules short read some is same (own, none) =
+    rw (is, same, own) (form_fault plant text logs rows place rest line rules short read (more_than_none (length rest) some) none)
+
+pub place_fault : (plant : Plant) (text : List ℕ) (logs : List AppLog) (rows : List JournalRow) (place : Place) (rest left : List ℕ) (line : ℕ) (said : Line) (result : Result Record RecordFault)
+    (e f : RecordFault) (seen : List JournalRow) → MeetsRules plant → length text < 2 ^ 32 - 1 → IsReadTo plant text logs rows place rest line → line_read plant rest ≡ Some (said, left) →
+    result ≡ Err e → e ≡ f → seen ≡ rows → GivesPlace line (Err f) (next plant seen place said) → IfErr result (IsRefusal plant text)
+place_fault plant text logs rows place rest left line said result e f seen rules short read taken is same shown (own, none) =
+    rw (is, same, own) (step_fault plant text logs rows place rest left line said rules short read taken (ap (λ rs. next plant rs place said) (sym shown) ∙ none))
+
+pub found_end : (plant : Plant) (text : List ℕ) (logs : List AppLog) (rows : List JournalRow) (place : Place) (rest : List ℕ) (line : ℕ) (result : Result Record RecordFault) → MeetsRules plant →
+    length text < 2 ^ 32 - 1 → IsReadTo plant text logs rows place rest line → (length rest == 0) ≡ true → EndsAt place logs rows line result →
+    IfOk result (λ r. IsRecordText plant text r.cycles (run_of r))
+found_end plant text logs rows place rest line (Ok r) rules short read none ends = read_whole plant text logs rows place rest line r rules short read (none_left (length rest) none) ends
+found_end plant text logs rows place rest line (Err e) rules short read none ends = tt
+
+pub refused_end : (plant : Plant) (text : List ℕ) (logs : List AppLog) (rows : List JournalRow) (place : Place) (rest : List ℕ) (line : ℕ) (result : Result Record RecordFault) → MeetsRules plant →
+    length text < 2 ^ 32 - 1 → IsReadTo plant text logs rows place rest line → (length rest == 0) ≡ true → EndsAt place logs rows line result → IfErr result (IsRefusal plant text)
+refused_end plant text logs rows place rest line (Ok r) rules short read none ends = tt
+refused_end plant text logs rows place rest line (Err e) rules short read none (own, open_) =
+    subst (IsRefusal plant text) (sym own) (end_fault plant text logs rows place rest line rules short read (none_left (length rest) none) open_)

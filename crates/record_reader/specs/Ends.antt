@@ -8,11 +8,15 @@ use Rattle.record_reader.specs.declared.fault.RecordFault.TheVariants as faults
 use Rattle.record_reader.specs.declared.place.Place.{Place}
 use Rattle.record_reader.specs.declared.place.Place.TheVariants.{Takes, Rows, Images, Turns, Done}
 
--- what is read, seen by view, or the number of a line that is not read
+-- the number of a line that is not read
+abbrev pub IsUnread : {Y : Type 0} → ℕ → RecordFault → Option Y → Type 0
+IsUnread line faults.NoMemory read = Unit {0}
+IsUnread line (faults.Line n) read = (n ≡ line) × (read ≡ None)
+
+-- what is read, seen by view, or that number
 abbrev pub GivesAt : {X Y : Type 0} → (X → Y) → ℕ → Result X RecordFault → Option Y → Type 0
 GivesAt view line (Ok x) read = read ≡ Some (view x)
-GivesAt view line (Err faults.NoMemory) read = Unit {0}
-GivesAt view line (Err (faults.Line n)) read = (n ≡ line) × (read ≡ None)
+GivesAt view line (Err e) read = IsUnread line e read
 
 -- the place after a line, or its number where there is none
 abbrev pub GivesPlace : ℕ → Result Place RecordFault → Option Place → Type 0
