@@ -1,14 +1,11 @@
 -- The lines of a whole record lead from the start to its end.
-use Rattle.std.proofs.Common.{◌≡◌, ◌<◌, ◌≤◌, ◌+◌, ◌^◌, ◌==◌, ◌&&◌, ℕ, zero, suc, Bool, true, false, cond, List, [], ◌∷◌, ◌++◌, length, nat_lt, nat_le, Option, Some, None, refl, sym, ◌∙◌, ap, subst, arith, append_assoc, append-nil, inl, inr}
+use Rattle.std.proofs.Common.{◌≡◌, ◌<◌, ◌≤◌, ◌+◌, ◌^◌, ◌==◌, ◌&&◌, ℕ, zero, suc, List, [], ◌∷◌, ◌++◌, length, nat_lt, nat_le, Option, Some, refl, sym, ◌∙◌, ap, subst, arith, append_assoc, append-nil, inl, inr}
 use Rattle.std.specs.Prelude.{◌⊎◌, if◌then◌else◌, zip}
 use Rattle.std.specs.List.{AllByRecursion, flat_map, range_with_len}
 use Rattle.std.proofs.lemmas.Bool.{cases_Bool, cases_lt}
-use Rattle.std.proofs.lemmas.Bool.Decides.{nat_tests}
 use Rattle.std.proofs.lemmas.Grind.{flat_map-append}
-use Rattle.std.proofs.lemmas.Option.{same_Some}
 use Rattle.cycle_rows.specs.Rows.{cycle_of}
 use Rattle.cycle_rows.specs.declared.rows.JournalRow.{JournalRow}
-use Rattle.io_buffers.specs.Given.{Given}
 use Rattle.irt_base.specs.declared.limits.TheConstants.{MAX_CYCLES}
 use Rattle.irt_base.specs.declared.numbers.DevId.{DevId}
 use Rattle.irt_base.specs.declared.plants.App.{App}
@@ -16,8 +13,8 @@ use Rattle.iso_rules.specs.declared.turn.Turn.{Turn}
 use Rattle.irt_base.specs.declared.plants.Plant.{Plant}
 use Rattle.iso_rules.specs.Lockstep.{AppLog, RunRecord}
 use Rattle.plant_rules.specs.Meets.{MeetsRules}
-use Rattle.record_laws.specs.Fitting.{IsLogOf, IsRecordOf, IsRowOf}
-use Rattle.record_laws.specs.Lines.{at_place, last_of, lines_of, of_all_turns, of_cycle, of_cycles, of_images, of_rows, of_takes, of_turns, rows_in}
+use Rattle.record_laws.specs.Fitting.{IsLogOf, IsRowOf}
+use Rattle.record_laws.specs.Lines.{at_place, last_of, lines_of, of_all_turns, of_cycle, of_cycles, of_rows, of_turns, rows_in}
 use Rattle.record_laws.specs.declared.line.Line.{Line}
 use Rattle.record_laws.specs.declared.line.Line.TheVariants as says
 use Rattle.record_laws.proofs.RowsFound.{rows_found}
@@ -27,7 +24,7 @@ use Rattle.record_reader.specs.Reading.{◌>>=◌}
 use Rattle.record_reader.specs.Steps.{after_takes, are_counts, next, run, start_of}
 use Rattle.record_reader.specs.Whole.{IsWholeRecord}
 use Rattle.record_reader.specs.declared.place.Place.{Place}
-use Rattle.record_reader.specs.declared.place.Place.TheVariants.{Takes, Rows, Images, Turns, Done}
+use Rattle.record_reader.specs.declared.place.Place.TheVariants.{Takes, Rows, Turns, Done}
 use Rattle.record_reader.proofs.Added.{one}
 use Rattle.record_reader.proofs.Shape.{equal}
 use Rattle.record_reader.proofs.Runs.{Has, both, counts_pass, equals, first_images_run, from_all, gives, images_lines, next_takes_run, rows_run, run_append, takes_lines, takes_run, turns_run, under, up_to}
@@ -196,7 +193,7 @@ bare_run plant cycles r a (suc n) from first whole none is low order =
     let few : a < MAX_CYCLES = omega (arith, whole.few) in
     let here = rows_run plant first (rows_of_cycle a r.journal) (rows_from r (a + 1) n) from a order (rows_are_of a r.journal) few (low_within from a low) (inl none) in
     let rest = bare_run plant cycles r (a + 1) n here.to (first ++ rows_of_cycle a r.journal) whole none (omega arith) (inl (omega (arith, here.within)))
-        (subst StandInOrder (sym (append_assoc first (rows_of_cycle a r.journal) (rows_from r (a + 1) n))) order) in
+    (subst StandInOrder (sym (append_assoc first (rows_of_cycle a r.journal) (rows_from r (a + 1) n))) order) in
     record {
       to = rest.to;
       low = subst (Low rest.to) (shift a n) rest.low;

@@ -1,18 +1,16 @@
 -- Each line has one line feed, at its end.
-use Rattle.std.proofs.Common.{◌≡◌, ◌≢◌, ◌<◌, ◌+◌, ◌^◌, ℕ, zero, suc, Bool, true, false, List, [], ◌∷◌, ◌++◌, length, refl, sym, ◌∙◌, ap, subst, arith, append_assoc}
+use Rattle.std.proofs.Common.{◌≡◌, ◌≢◌, ◌<◌, ◌^◌, ℕ, Bool, true, false, List, [], ◌∷◌, ◌++◌, refl, sym, ◌∙◌, ap, arith, append_assoc}
 use Rattle.std.specs.Prelude.{codes, ℤ}
-use Rattle.std.specs.List.{AllByRecursion, flat_map}
-use Rattle.std.proofs.lemmas.Bool.Decides.{nat_tests}
 use Rattle.cycle_rows.specs.Rows.{cycle_of}
 use Rattle.cycle_rows.specs.declared.rows.JournalRow.{JournalRow}
 use Rattle.cycle_rows.specs.declared.rows.JournalRow.TheVariants.{Occupy, Deliver, Missed, Sent, Refused, Lost, Came}
 use Rattle.io_buffers.specs.declared.taken.Taken.{Taken}
 use Rattle.irt_base.specs.declared.plants.Plant.{Plant}
-use Rattle.irt_trace.specs.Journal.{begin_of, device_of, end_of_line, field, frame_field, letter_of, name_of, parcel_fields, queue_end, rest_of, row_line, time_field, times_end}
+use Rattle.irt_trace.specs.Journal.{begin_of, device_of, end_of_line, field, frame_field, letter_of, name_of, parcel_fields, rest_of, time_field, times_end}
 use Rattle.plant_rules.specs.Meets.{MeetsRules}
-use Rattle.record_text.specs.Text.{flag_field, image_line, take_line, taken_fields, turn_begin, turn_line, word_field, words_text}
-use Rattle.record_laws.specs.Fitting.{HasRange, IsRowOf, IsTime}
-use Rattle.record_laws.specs.Lines.{last_line, line_text}
+use Rattle.record_text.specs.Text.{flag_field, taken_fields, turn_begin, word_field, words_text}
+use Rattle.record_laws.specs.Fitting.{HasRange, IsTime}
+use Rattle.record_laws.specs.Lines.{line_text}
 use Rattle.record_laws.specs.declared.line.Line.{Line}
 use Rattle.record_laws.specs.declared.line.Line.TheVariants as says
 use Rattle.record_laws.proofs.Fields.{IsPlain, decimal-plain, hex_digits-plain, is_end, time-plain}
@@ -122,9 +120,14 @@ line_fed plant (says.Row r) rules right =
 line_fed plant (says.Image k d words) rules right =
     after_more (begin_of plant 105 k d.0) (words_text words ++ end_of_line) (begin_fed plant 105 k d.0 rules (omega arith) (omega (arith, right.0))) (after_more (words_text words) end_of_line (words_fed words) just_feed)
 line_fed plant (says.Turn d number t) rules right =
-    after_more (turn_begin plant d.0 number t) (words_text t.input ++ (codes " :" ++ (words_text t.output ++ end_of_line)))
-    (not 117 (omega arith), (not 32 (omega arith), both_fed (name_of plant d.0) (field number ++ (field t.found ++ taken_fields t.taken)) (name_fed plant d.0 rules)
-    (both_fed (field number) (field t.found ++ taken_fields t.taken) (field_fed number right.1) (both_fed (field t.found) (taken_fields t.taken) (field_fed t.found (omega (arith, right.2.found))) (taken_fed t.taken right.2.number)))))
+    after_more (turn_begin plant d.0 number t) (words_text t.input ++ (codes " :" ++ (words_text t.output ++ end_of_line))) (
+      not 117 (omega arith),
+      (
+        not 32 (omega arith),
+        both_fed (name_of plant d.0) (field number ++ (field t.found ++ taken_fields t.taken)) (name_fed plant d.0 rules)
+            (both_fed (field number) (field t.found ++ taken_fields t.taken) (field_fed number right.1) (both_fed (field t.found) (taken_fields t.taken) (field_fed t.found (omega (arith, right.2.found))) (taken_fed t.taken right.2.number))),
+      ),
+    )
     (after_more (words_text t.input) (codes " :" ++ (words_text t.output ++ end_of_line)) (words_fed t.input)
     (after_more (codes " :") (words_text t.output ++ end_of_line) (not 32 (omega arith), (not 58 (omega arith), tt)) (after_more (words_text t.output) end_of_line (words_fed t.output) just_feed)))
 line_fed plant (says.Last a b c d) rules right =

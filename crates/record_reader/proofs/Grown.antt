@@ -1,7 +1,6 @@
 -- One line more of a draft.
-use Rattle.std.proofs.Common.{◌≡◌, ◌<◌, ◌+◌, ◌-◌, ◌==◌, ℕ, zero, suc, Bool, true, false, cond, List, [], ◌∷◌, ◌++◌, length, map, take, set, get_or, nat_lt, Option, Some, None, Result, Ok, Err, refl, sym, ◌∙◌, ap, subst, arith, append-nil, inl, inr}
-
-use Rattle.std.specs.Prelude.{if◌then◌else◌, OnOk, slice_get, position}
+use Rattle.std.proofs.Common.{◌≡◌, ◌<◌, ◌+◌, ◌-◌, ◌==◌, ℕ, zero, suc, true, false, cond, List, [], ◌∷◌, ◌++◌, length, map, take, set, get_or, nat_lt, Some, None, Result, Ok, Err, refl, sym, ◌∙◌, ap, arith, append-nil, inl, inr}
+use Rattle.std.specs.Prelude.{if◌then◌else◌, OnOk, slice_get}
 use Rattle.std.specs.List.{AllByRecursion, IsDistinct, flat_map, position_or_len}
 use Rattle.std.proofs.lemmas.Bool.{cases_Bool}
 use Rattle.std.proofs.lemmas.Bool.Decides.{nat_tests}

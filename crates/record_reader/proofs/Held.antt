@@ -1,28 +1,23 @@
 -- Lines that lead from the start to a place are those of the record that they say.
-use Rattle.std.proofs.Common.{◌≡◌, ◌≢◌, ◌<◌, ◌≤◌, ◌+◌, ◌-◌, ◌^◌, ◌==◌, ◌&&◌, ◌||◌, ℕ, zero, suc, Bool, true, false, cond, List, [], ◌∷◌, ◌++◌, length, map, nat_lt, nat_le, Option, Some, None, refl, sym, ◌∙◌, ap, subst, arith, append_assoc, append-nil, inl, inr}
-use Rattle.std.specs.Prelude.{◌⊎◌, if◌then◌else◌, slice_get}
-use Rattle.std.specs.List.{AllByRecursion, flat_map, range_with_len}
-use Rattle.std.proofs.lemmas.Bool.{cases_Bool, and_parts}
+use Rattle.std.proofs.Common.{◌≡◌, ◌<◌, ◌≤◌, ◌+◌, ◌^◌, ◌==◌, ◌&&◌, ℕ, zero, suc, Bool, true, false, List, [], ◌∷◌, ◌++◌, length, map, nat_lt, nat_le, Option, Some, None, refl, sym, ◌∙◌, ap, subst, arith, append_assoc, append-nil}
+use Rattle.std.specs.Prelude.{if◌then◌else◌, slice_get}
+use Rattle.std.specs.List.{flat_map}
+use Rattle.std.proofs.lemmas.Bool.{and_parts}
 use Rattle.std.proofs.lemmas.Bool.Decides.{nat_tests}
-use Rattle.std.proofs.lemmas.Grind.{flat_map-append}
 use Rattle.std.proofs.lemmas.Option.{none-some, same_Some}
 use Rattle.cycle_rows.specs.Rows.{cycle_of}
 use Rattle.cycle_rows.specs.declared.rows.JournalRow.{JournalRow}
-use Rattle.io_buffers.specs.Given.{Given}
 use Rattle.irt_base.specs.declared.limits.TheConstants.{MAX_CYCLES}
 use Rattle.irt_base.specs.declared.numbers.DevId.{DevId}
 use Rattle.irt_base.specs.declared.plants.App.{App}
 use Rattle.irt_base.specs.declared.plants.Plant.{Plant}
-use Rattle.iso_rules.specs.Lockstep.{AppLog, RunRecord}
-use Rattle.iso_rules.specs.declared.turn.Turn.{Turn}
+use Rattle.iso_rules.specs.Lockstep.{AppLog}
 use Rattle.plant_rules.specs.Meets.{MeetsRules}
 use Rattle.record_laws.specs.Lines.{last_of, lines_of, log_in, of_all_turns, of_cycle, of_cycles, rows_in}
 use Rattle.record_laws.specs.declared.line.Line.{Line}
 use Rattle.record_laws.specs.declared.line.Line.TheVariants as says
 use Rattle.record_text.specs.Text.{lettered}
 use Rattle.record_reader.specs.Grow.{logs_in, with_line}
-use Rattle.record_reader.specs.Order.{StandInOrder}
-use Rattle.record_reader.specs.Reading.{◌>>=◌}
 use Rattle.record_reader.specs.Steps.{after_images, after_takes, are_counts, image_at, is_app, is_row_at, is_turn_at, next, row_at, run, start_of, take_at, turn_at}
 use Rattle.iso_rules.specs.Image.{app_on}
 use Rattle.record_reader.specs.Order.{follows}
@@ -31,8 +26,8 @@ use Rattle.record_reader.specs.declared.place.Place.TheVariants.{Takes, Rows, Im
 use Rattle.record_reader.proofs.Values.{bind_some, when_some}
 use Rattle.record_reader.proofs.Grown.{logs_more, one_more_line}
 use Rattle.record_reader.proofs.Growth.{range_none}
-use Rattle.record_reader.proofs.Added.{Before, all_lines, cycle_none, images_count, no_more, one, record_of, takes_count, turns_count, turns_none}
-use Rattle.record_reader.proofs.Shape.{Added, Each, HasImages, HasTakes, HasTurns, Shape, TakesRead, before_more, below, each_weaker, equal, image_step, no_log_there, row_step, take_step, takes_shape, turn_step, within_of}
+use Rattle.record_reader.proofs.Added.{all_lines, cycle_none, images_count, no_more, one, record_of, takes_count, turns_count, turns_none}
+use Rattle.record_reader.proofs.Shape.{Added, HasTurns, Shape, TakesRead, before_more, below, each_weaker, equal, image_step, no_log_there, row_step, take_step, takes_shape, turn_step}
 
 -- the line that ends a whole record
 abbrev pub ending : Place → List JournalRow → List Line

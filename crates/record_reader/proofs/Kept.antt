@@ -1,17 +1,13 @@
 -- What right lines say is a whole record, and the lines of a whole record are right.
-use Rattle.std.proofs.Common.{◌≡◌, ◌<◌, ◌≤◌, ◌+◌, ◌^◌, ◌==◌, ℕ, zero, suc, Bool, true, false, List, [], ◌∷◌, ◌++◌, length, map, Option, Some, None, refl, sym, ◌∙◌, ap, subst, arith, inl, inr, All}
-use Rattle.std.specs.Prelude.{if◌then◌else◌, AllPairs, slice_get, zip}
-use Rattle.std.specs.List.{AllByRecursion, count_by, flat_map, range_with_len}
-use Rattle.std.proofs.lemmas.Bool.{cases_Bool}
-use Rattle.std.proofs.lemmas.Bool.Decides.{nat_tests}
-use Rattle.std.proofs.lemmas.List.Elements.{All-cons, All-nil, All-from_recursion}
+use Rattle.std.proofs.Common.{◌≡◌, ◌<◌, ◌≤◌, ◌+◌, ◌^◌, ◌==◌, ℕ, suc, Bool, true, false, List, [], ◌∷◌, ◌++◌, length, map, Some, refl, ◌∙◌, ap, arith}
+use Rattle.std.specs.Prelude.{if◌then◌else◌, slice_get, zip}
+use Rattle.std.specs.List.{AllByRecursion, flat_map, range_with_len}
+use Rattle.std.proofs.lemmas.List.Elements.{All-from_recursion}
 use Rattle.std.proofs.lemmas.List.Kept.{AllPairs-cons}
 use Rattle.std.proofs.lemmas.List.Sums.{count_by-le-length}
-use Rattle.std.proofs.lemmas.Option.{none-some, same_Some}
 use Rattle.cycle_rows.specs.Rows.{cycle_of}
 use Rattle.cycle_rows.specs.declared.rows.JournalRow.{JournalRow}
 use Rattle.io_buffers.specs.Given.{Given}
-use Rattle.irt_base.specs.declared.limits.TheConstants.{MAX_CYCLES}
 use Rattle.irt_base.specs.declared.numbers.DevId.{DevId}
 use Rattle.irt_base.specs.declared.plants.App.{App}
 use Rattle.irt_base.specs.declared.plants.Plant.{Plant}
@@ -19,7 +15,7 @@ use Rattle.irt_trace.specs.Journal.{letter_of}
 use Rattle.iso_rules.specs.Lockstep.{AppLog, RunRecord}
 use Rattle.iso_rules.specs.declared.turn.Turn.{Turn}
 use Rattle.plant_rules.specs.Meets.{IsApp, MeetsRules}
-use Rattle.record_laws.specs.Fitting.{AreWords, IsLogOf, IsRecordOf, IsRowOf, IsTake, IsTurn}
+use Rattle.record_laws.specs.Fitting.{AreWords, IsLogOf, IsRowOf, IsTake, IsTurn}
 use Rattle.record_laws.specs.Lines.{at_place, images_in, last_of, lines_of, log_in, of_all_turns, of_cycle, of_cycles, of_images, of_rows, of_takes, of_turns, rows_in, takes_in, turns_in}
 use Rattle.record_laws.specs.declared.line.Line.{Line}
 use Rattle.record_laws.specs.declared.line.Line.TheVariants as says
@@ -30,8 +26,7 @@ use Rattle.record_reader.specs.Order.{StandInOrder}
 use Rattle.record_reader.specs.Reading.{input_words, output_words}
 use Rattle.record_reader.specs.Right.{IsRightLine}
 use Rattle.record_reader.specs.Whole.{HasWordCounts, IsWholeRecord}
-use Rattle.record_reader.specs.declared.place.Place.{Place}
-use Rattle.record_reader.specs.declared.place.Place.TheVariants.{Takes, Rows, Images, Turns, Done}
+use Rattle.record_reader.specs.declared.place.Place.TheVariants.{Done}
 use Rattle.record_reader.proofs.Added.{Before, one, record_of}
 use Rattle.record_reader.proofs.Held.{Held}
 use Rattle.record_reader.proofs.Shape.{cycle_up_to, equal}
@@ -131,21 +126,28 @@ logs_good plant cycles lines (a ∷ apps) right counts =
     let good_takes = All-each (GoodTake plant a.device) (IsRightLine plant) (takes_in a.device.0) lines right (takes_good plant a.device) in
     let good_images = All-each (GoodImage plant a.device) (IsRightLine plant) (images_in a.device.0) lines right (images_good plant a.device) in
     let good_turns = All-each (GoodTurn plant a.device) (IsRightLine plant) (turns_in a.device.0) lines right (turns_good plant a.device) in
-    let rest = logs_good plant cycles lines apps right (λ m l is. counts (suc m) l is) in
-    ((record {
-      take_count = takes;
-      takes = weaker (GoodTake plant a.device) IsTake (flat_map (takes_in a.device.0) lines) good_takes (λ g is. is.0);
-      image_count = images;
-      images = weaker (GoodImage plant a.device) AreWords (flat_map (images_in a.device.0) lines) good_images (λ words is. is.0);
-      turn_count = turns;
-      turns = weaker (GoodTurn plant a.device) IsTurn (flat_map (turns_in a.device.0) lines) good_turns (λ t is. is.0);
-    }, rest.0),
-    (record {
-      takes = weaker (GoodTake plant a.device) (λ (g : Given). length g.words ≡ output_words plant a.device) (flat_map (takes_in a.device.0) lines) good_takes (λ g is. is.1);
-      images = weaker (GoodImage plant a.device) (λ (words : List ℕ). length words ≡ input_words plant a.device) (flat_map (images_in a.device.0) lines) good_images (λ words is. is.1);
-      inputs = weaker (GoodTurn plant a.device) (λ (t : Turn). length t.input ≡ input_words plant a.device) (flat_map (turns_in a.device.0) lines) good_turns (λ t is. is.1);
-      outputs = weaker (GoodTurn plant a.device) (λ (t : Turn). length t.output ≡ output_words plant a.device) (flat_map (turns_in a.device.0) lines) good_turns (λ t is. is.2);
-    }, rest.1))
+    let rest = logs_good plant cycles lines apps right (λ m l is. counts (suc m) l is) in (
+      (
+        record {
+          take_count = takes;
+          takes = weaker (GoodTake plant a.device) IsTake (flat_map (takes_in a.device.0) lines) good_takes (λ g is. is.0);
+          image_count = images;
+          images = weaker (GoodImage plant a.device) AreWords (flat_map (images_in a.device.0) lines) good_images (λ words is. is.0);
+          turn_count = turns;
+          turns = weaker (GoodTurn plant a.device) IsTurn (flat_map (turns_in a.device.0) lines) good_turns (λ t is. is.0);
+        },
+        rest.0,
+      ),
+      (
+        record {
+          takes = weaker (GoodTake plant a.device) (λ (g : Given). length g.words ≡ output_words plant a.device) (flat_map (takes_in a.device.0) lines) good_takes (λ g is. is.1);
+          images = weaker (GoodImage plant a.device) (λ (words : List ℕ). length words ≡ input_words plant a.device) (flat_map (images_in a.device.0) lines) good_images (λ words is. is.1);
+          inputs = weaker (GoodTurn plant a.device) (λ (t : Turn). length t.input ≡ input_words plant a.device) (flat_map (turns_in a.device.0) lines) good_turns (λ t is. is.1);
+          outputs = weaker (GoodTurn plant a.device) (λ (t : Turn). length t.output ≡ output_words plant a.device) (flat_map (turns_in a.device.0) lines) good_turns (λ t is. is.2);
+        },
+        rest.1,
+      ),
+    )
 
 pub held_whole : (plant : Plant) (limit cycles : ℕ) (lines : List Line) → AllByRecursion (IsRightLine plant) lines → length (flat_map rows_in lines) < 2 ^ 64 →
     Held plant limit (Done cycles) (logs_in plant lines) (flat_map rows_in lines) lines → IsWholeRecord plant cycles (record_of (logs_in plant lines) (flat_map rows_in lines))

@@ -1,6 +1,6 @@
 -- A line is read from its text, and only from it.
-use Rattle.std.proofs.Common.{◌≡◌, ◌<◌, ◌≤◌, ◌+◌, ◌-◌, ◌^◌, ◌==◌, ◌||◌, ℕ, zero, suc, Bool, true, false, List, [], ◌∷◌, ◌++◌, length, Option, Some, None, refl, sym, ◌∙◌, ap, subst, arith, append_assoc, inl, inr}
-use Rattle.std.specs.Prelude.{if◌then◌else◌, codes}
+use Rattle.std.proofs.Common.{◌≡◌, ◌<◌, ◌-◌, ◌^◌, ◌==◌, ℕ, true, List, [], ◌∷◌, ◌++◌, length, Option, Some, refl, sym, ◌∙◌, ap, subst, arith, append_assoc, inl, inr}
+use Rattle.std.specs.Prelude.{codes}
 use Rattle.std.proofs.lemmas.Bool.{eqb-true}
 use Rattle.std.proofs.lemmas.Option.{none-some, same_Some}
 use Rattle.cycle_rows.specs.Rows.{cycle_of}
@@ -10,7 +10,7 @@ use Rattle.io_buffers.specs.Given.{Given, given}
 use Rattle.io_buffers.specs.declared.taken.Taken.{Taken}
 use Rattle.irt_base.specs.declared.numbers.DevId.{DevId}
 use Rattle.irt_base.specs.declared.plants.Plant.{Plant}
-use Rattle.irt_trace.specs.Journal.{begin_of, device_of, end_of_line, field, letter_of, name_of, rest_of, row_line}
+use Rattle.irt_trace.specs.Journal.{begin_of, device_of, end_of_line, field, letter_of, name_of, rest_of}
 use Rattle.iso_rules.specs.declared.turn.Turn.{Turn}
 use Rattle.plant_rules.specs.Meets.{MeetsRules}
 use Rattle.record_text.specs.Text.{image_line, take_line, taken_fields, turn_begin, turn_line, words_text}
@@ -20,7 +20,7 @@ use Rattle.record_laws.specs.declared.line.Line.{Line}
 use Rattle.record_laws.specs.declared.line.Line.TheVariants as says
 use Rattle.record_laws.proofs.Fields.{Ends}
 use Rattle.record_laws.proofs.RowCut.{four, taken-ends, three, two}
-use Rattle.record_reader.specs.Reading.{◌>>=◌, after_byte, begin_read, device_read, image_read, input_words, last_read, line_of_letter, line_read, number_read, output_words, row_line_read, row_read, take_read, taken_read, turn_begin_read, turn_read, turn_words_read, words_read}
+use Rattle.record_reader.specs.Reading.{after_byte, begin_read, device_read, image_read, input_words, last_read, line_of_letter, line_read, number_read, output_words, row_line_read, row_read, take_read, taken_read, turn_begin_read, turn_read, turn_words_read, words_read}
 use Rattle.record_reader.specs.Right.{IsRightLine}
 use Rattle.record_reader.proofs.Values.{bind_some}
 use Rattle.record_reader.proofs.FieldsRead.{bind-again, byte_taken, device_read-again, device_read-taken, number_read-again, number_read-taken}

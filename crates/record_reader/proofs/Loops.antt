@@ -1,5 +1,5 @@
 -- Words that are read one by one.
-use Rattle.std.proofs.Common.{◌≡◌, ◌<◌, ◌-◌, ◌+◌, ℕ, suc, List, [], ◌∷◌, ◌++◌, Option, Some, refl, sym, ◌∙◌, ap, arith}
+use Rattle.std.proofs.Common.{◌≡◌, ◌<◌, ◌-◌, ◌+◌, ℕ, suc, List, [], ◌∷◌, ◌++◌, Option, Some, sym, ◌∙◌, ap, arith}
 use Rattle.record_reader.specs.Reading.{◌>>=◌, word_read, words_read}
 
 words_first : (count word : ℕ) (words rest after : List ℕ) → word_read rest ≡ Some (word, after) → words_read (suc count) words rest ≡ words_read count (words ++ word ∷ []) after

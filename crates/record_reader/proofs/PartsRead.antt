@@ -1,20 +1,19 @@
 -- The parts of lines are read as they are written, and only so.
-use Rattle.std.proofs.Common.{◌≡◌, ◌<◌, ◌≤◌, ◌+◌, ◌-◌, ◌^◌, ℕ, zero, suc, ℤ, Bool, true, false, List, [], ◌∷◌, ◌++◌, length, Option, Some, None, refl, sym, ◌∙◌, ap, subst, arith, append_assoc, append-nil, length-append}
-use Rattle.std.specs.List.{AllByRecursion, flat_map}
-use Rattle.std.proofs.lemmas.Option.{none-some, same_Some}
+use Rattle.std.proofs.Common.{◌≡◌, ◌<◌, ◌-◌, ◌^◌, ℕ, zero, suc, ℤ, Bool, true, false, List, [], ◌∷◌, ◌++◌, length, Some, refl, sym, ◌∙◌, ap, subst, arith, append_assoc, append-nil}
+use Rattle.std.proofs.lemmas.Option.{same_Some}
 use Rattle.io_buffers.specs.declared.taken.Taken.{Taken}
 use Rattle.irt_base.specs.declared.numbers.DevId.{DevId}
 use Rattle.irt_base.specs.declared.numbers.PortNo.{PortNo}
 use Rattle.irt_base.specs.declared.plants.Plant.{Plant}
-use Rattle.irt_trace.specs.Journal.{begin_of, end_of_line, field, name_of, parcel_fields, queue_end, time_field, times_end}
+use Rattle.irt_trace.specs.Journal.{end_of_line, field, name_of, parcel_fields, queue_end, time_field, times_end}
 use Rattle.plant_rules.specs.Meets.{MeetsRules}
 use Rattle.record_text.specs.Text.{flag_field, taken_fields, word_field, words_text}
 use Rattle.record_laws.specs.Fitting.{AreWords, IsParcelAt, IsTime}
 use Rattle.record_laws.proofs.Fields.{Ends}
 use Rattle.record_laws.proofs.RowCut.{left3, three, two}
-use Rattle.record_reader.specs.Reading.{◌>>=◌, after_byte, begin_read, device_read, flag_read, number_read, parcel_read, port_read, queue_read, taken_read, time_read, times_read, word_read, words_read}
+use Rattle.record_reader.specs.Reading.{after_byte, begin_read, device_read, flag_read, number_read, parcel_read, port_read, queue_read, taken_read, time_read, times_read, word_read, words_read}
 use Rattle.record_reader.proofs.Values.{bind_some}
-use Rattle.record_reader.proofs.FieldsRead.{bind-again, byte_again, byte_taken, device_read-again, device_read-taken, flag_read-again, flag_read-taken, number_read-again, number_read-taken, port_read-again, port_read-taken, time_read-again, time_read-taken, word_read-again, word_read-taken}
+use Rattle.record_reader.proofs.FieldsRead.{bind-again, byte_taken, device_read-again, device_read-taken, flag_read-again, flag_read-taken, number_read-again, number_read-taken, port_read-again, port_read-taken, time_read-again, time_read-taken, word_read-again, word_read-taken}
 
 -- ---- takes
 
@@ -40,10 +39,11 @@ taken-taken bytes y is =
     let (fresh, b, n) = bind_some (flag_read number.1) _ y m in
     let (window, c, o) = bind_some (flag_read fresh.1) _ y n in
     let (fits, small, text) = number_read-taken (2 ^ 64 - 1) bytes number a in
-    let whole = same_Some (made number.0 fresh.0 window.0, window.1) y o in
-    (omega (arith, fits, ap (λ (y : Taken × List ℕ). y.0.number) whole),
-    text ∙ (ap (λ r. field number.0 ++ r) (flag_read-taken number.1 fresh b ∙ ap (λ r. flag_field fresh.0 ++ r) (flag_read-taken fresh.1 window c))
-    ∙ (sym (three (field number.0) (flag_field fresh.0) (flag_field window.0) window.1) ∙ ap (λ (y : Taken × List ℕ). taken_fields y.0 ++ y.1) whole)))
+    let whole = same_Some (made number.0 fresh.0 window.0, window.1) y o in (
+      omega (arith, fits, ap (λ (y : Taken × List ℕ). y.0.number) whole),
+      text ∙ (ap (λ r. field number.0 ++ r) (flag_read-taken number.1 fresh b ∙ ap (λ r. flag_field fresh.0 ++ r) (flag_read-taken fresh.1 window c))
+          ∙ (sym (three (field number.0) (flag_field fresh.0) (flag_field window.0) window.1) ∙ ap (λ (y : Taken × List ℕ). taken_fields y.0 ++ y.1) whole)),
+    )
   where
     made : ℕ → Bool → Bool → Taken
     made number fresh window = record { number = number; fresh = fresh; in_window = window }
@@ -120,10 +120,12 @@ begin-taken plant bytes y is =
     let (fits, small, text) = number_read-taken (2 ^ 32 - 1) bytes cycle a in
     let (there, name) = device_read-taken plant cycle.1 device b in
     let whole = same_Some ((cycle.0, device.0), device.1) y n in
-    let few : cycle.0 < 2 ^ 32 = omega arith in
-    (subst (λ (y : (ℕ × DevId) × List ℕ). y.0.0 < 2 ^ 32) whole few, subst (λ (y : (ℕ × DevId) × List ℕ). y.0.1.0 < length plant.devices) whole there,
-    text ∙ (ap (λ r. field cycle.0 ++ r) name
-    ∙ (sym (two (field cycle.0) (32 ∷ name_of plant device.0.0) device.1) ∙ ap (λ (y : (ℕ × DevId) × List ℕ). (field y.0.0 ++ 32 ∷ name_of plant y.0.1.0) ++ y.1) whole)))
+    let few : cycle.0 < 2 ^ 32 = omega arith in (
+      subst (λ (y : (ℕ × DevId) × List ℕ). y.0.0 < 2 ^ 32) whole few,
+      subst (λ (y : (ℕ × DevId) × List ℕ). y.0.1.0 < length plant.devices) whole there,
+      text ∙ (ap (λ r. field cycle.0 ++ r) name
+          ∙ (sym (two (field cycle.0) (32 ∷ name_of plant device.0.0) device.1) ∙ ap (λ (y : (ℕ × DevId) × List ℕ). (field y.0.0 ++ 32 ∷ name_of plant y.0.1.0) ++ y.1) whole)),
+    )
 
 -- ---- parcels and times
 
@@ -145,9 +147,11 @@ parcel-taken bytes y is =
     let (fb, sb, tb) = number_read-taken (2 ^ 32 - 1) traffic.1 serial b in
     let whole = same_Some ((traffic.0, serial.0), serial.1) y n in
     let few : traffic.0 < 2 ^ 16 = omega arith in
-    let short : serial.0 < 2 ^ 32 = omega arith in
-    (subst (λ (y : (ℕ × ℕ) × List ℕ). y.0.0 < 2 ^ 16) whole few, subst (λ (y : (ℕ × ℕ) × List ℕ). y.0.1 < 2 ^ 32) whole short,
-    ta ∙ (ap (λ r. field traffic.0 ++ r) tb ∙ (sym (two (field traffic.0) (field serial.0) serial.1) ∙ ap (λ (y : (ℕ × ℕ) × List ℕ). parcel_fields y.0.0 y.0.1 ++ y.1) whole)))
+    let short : serial.0 < 2 ^ 32 = omega arith in (
+      subst (λ (y : (ℕ × ℕ) × List ℕ). y.0.0 < 2 ^ 16) whole few,
+      subst (λ (y : (ℕ × ℕ) × List ℕ). y.0.1 < 2 ^ 32) whole short,
+      ta ∙ (ap (λ r. field traffic.0 ++ r) tb ∙ (sym (two (field traffic.0) (field serial.0) serial.1) ∙ ap (λ (y : (ℕ × ℕ) × List ℕ). parcel_fields y.0.0 y.0.1 ++ y.1) whole)),
+    )
 
 pub times-again : (start end : ℤ) (rest : List ℕ) → IsTime start → IsTime end → times_read (times_end start end ++ rest) ≡ Some ((start, end), rest)
 unfolding times_read
@@ -165,10 +169,12 @@ times-taken bytes y is =
     let (rest, c, o) = bind_some (after_byte 10 end.1) _ y n in
     let (fa, ta) = time_read-taken bytes start a in
     let (fb, tb) = time_read-taken start.1 end b in
-    let whole = same_Some ((start.0, end.0), rest) y o in
-    (subst (λ (y : (ℤ × ℤ) × List ℕ). IsTime y.0.0) whole fa, subst (λ (y : (ℤ × ℤ) × List ℕ). IsTime y.0.1) whole fb,
-    ta ∙ (ap (λ r. time_field start.0 ++ r) (tb ∙ ap (λ r. time_field end.0 ++ r) (byte_taken 10 end.1 rest c))
-    ∙ (sym (left3 (time_field start.0) (time_field end.0) end_of_line rest) ∙ ap (λ (y : (ℤ × ℤ) × List ℕ). times_end y.0.0 y.0.1 ++ y.1) whole)))
+    let whole = same_Some ((start.0, end.0), rest) y o in (
+      subst (λ (y : (ℤ × ℤ) × List ℕ). IsTime y.0.0) whole fa,
+      subst (λ (y : (ℤ × ℤ) × List ℕ). IsTime y.0.1) whole fb,
+      ta ∙ (ap (λ r. time_field start.0 ++ r) (tb ∙ ap (λ r. time_field end.0 ++ r) (byte_taken 10 end.1 rest c))
+          ∙ (sym (left3 (time_field start.0) (time_field end.0) end_of_line rest) ∙ ap (λ (y : (ℤ × ℤ) × List ℕ). times_end y.0.0 y.0.1 ++ y.1) whole)),
+    )
 
 pub queue-again : (p : PortNo) (traffic serial : ℕ) (rest : List ℕ) → IsParcelAt p traffic serial → queue_read (queue_end p.0 traffic serial ++ rest) ≡ Some ((p, traffic, serial), rest)
 unfolding queue_read
@@ -188,7 +194,8 @@ queue-taken bytes y is =
     let (fa, ta) = port_read-taken bytes port a in
     let (fb, fc, tb) = parcel-taken port.1 parcel b in
     let whole = same_Some ((port.0, parcel.0.0, parcel.0.1), rest) y o in
-    let fits : IsParcelAt port.0 parcel.0.0 parcel.0.1 = record { port = fa; entry = fb; number = fc } in
-    (subst (λ (y : (PortNo × ℕ × ℕ) × List ℕ). IsParcelAt y.0.0 y.0.1 y.0.2) whole fits,
-    ta ∙ (ap (λ r. field port.0.0 ++ r) (tb ∙ ap (λ r. parcel_fields parcel.0.0 parcel.0.1 ++ r) (byte_taken 10 parcel.1 rest c))
-    ∙ (sym (left3 (field port.0.0) (parcel_fields parcel.0.0 parcel.0.1) end_of_line rest) ∙ ap (λ (y : (PortNo × ℕ × ℕ) × List ℕ). queue_end y.0.0.0 y.0.1 y.0.2 ++ y.1) whole)))
+    let fits : IsParcelAt port.0 parcel.0.0 parcel.0.1 = record { port = fa; entry = fb; number = fc } in (
+      subst (λ (y : (PortNo × ℕ × ℕ) × List ℕ). IsParcelAt y.0.0 y.0.1 y.0.2) whole fits,
+      ta ∙ (ap (λ r. field port.0.0 ++ r) (tb ∙ ap (λ r. parcel_fields parcel.0.0 parcel.0.1 ++ r) (byte_taken 10 parcel.1 rest c))
+          ∙ (sym (left3 (field port.0.0) (parcel_fields parcel.0.0 parcel.0.1) end_of_line rest) ∙ ap (λ (y : (PortNo × ℕ × ℕ) × List ℕ). queue_end y.0.0.0 y.0.1 y.0.2 ++ y.1) whole)),
+    )

@@ -1,5 +1,5 @@
 -- What is known where some lines of a text are read, and what follows at its end and at a fault.
-use Rattle.std.proofs.Common.{◌≡◌, ◌≢◌, ◌<◌, ◌≤◌, ◌+◌, ◌-◌, ◌^◌, ◌==◌, ℕ, zero, suc, Bool, true, false, List, [], ◌∷◌, ◌++◌, length, Option, Some, None, Result, Ok, Err, refl, sym, ◌∙◌, ap, subst, arith, append_assoc, append-nil, length-append, inl, inr}
+use Rattle.std.proofs.Common.{◌≡◌, ◌≢◌, ◌<◌, ◌≤◌, ◌+◌, ◌-◌, ◌^◌, ◌==◌, ℕ, suc, true, false, List, [], ◌∷◌, ◌++◌, length, Option, Some, None, Result, Ok, Err, refl, sym, ◌∙◌, ap, subst, arith, append_assoc, append-nil, length-append, inl, inr}
 use Rattle.std.specs.Prelude.{◌⊎◌, MatchResult, IfOk, IfErr}
 use Rattle.std.specs.List.{AllByRecursion, flat_map}
 use Rattle.std.proofs.lemmas.Bool.{cases_Bool}
@@ -11,34 +11,34 @@ use Rattle.irt_base.specs.declared.limits.TheConstants.{MAX_CYCLES}
 use Rattle.irt_base.specs.declared.plants.Plant.{Plant}
 use Rattle.iso_rules.specs.Lockstep.{AppLog, RunRecord}
 use Rattle.plant_rules.specs.Meets.{MeetsRules}
-use Rattle.record_laws.specs.Lines.{IsLineOf, line_text, lines_of, rows_in}
+use Rattle.record_laws.specs.Lines.{line_text, lines_of, rows_in}
 use Rattle.record_laws.specs.declared.line.Line.{Line}
 use Rattle.record_laws.specs.declared.line.Line.TheVariants as says
 use Rattle.record_laws.proofs.Found.{record_found}
 use Rattle.record_laws.proofs.LineCut.{FitLine, first, line_cut, starts}
 use Rattle.record_laws.proofs.LinesFit.{All-more}
 use Rattle.record_laws.proofs.Through.{lines_text}
-use Rattle.record_text.specs.Text.{record_text, run_of}
+use Rattle.record_text.specs.Text.{run_of}
 use Rattle.record_text.specs.declared.record.Record.{Record}
 use Rattle.record_reader.specs.Ends.{EndsAt, GivesPlace, IsUnread}
 use Rattle.record_reader.specs.Grow.{logs_in, with_line}
 use Rattle.record_reader.specs.Reading.{◌>>=◌, line_read}
 use Rattle.record_reader.specs.Right.{IsRightLine}
 use Rattle.record_reader.specs.Steps.{next, run, start_of}
-use Rattle.record_reader.specs.Whole.{BeginsText, HasNoFeed, IsFaultAfter, IsFirstFault, IsRecordText, IsRefusal, IsWholeRecord, feed_lines}
+use Rattle.record_reader.specs.Whole.{BeginsText, HasNoFeed, IsFaultAfter, IsFirstFault, IsRecordText, IsRefusal, feed_lines}
 use Rattle.record_reader.specs.declared.fault.RecordFault.{RecordFault}
 use Rattle.record_reader.specs.declared.fault.RecordFault.TheVariants as faults
 use Rattle.record_reader.specs.declared.place.Place.{Place}
-use Rattle.record_reader.specs.declared.place.Place.TheVariants.{Takes, Rows, Images, Turns, Done}
+use Rattle.record_reader.specs.declared.place.Place.TheVariants.{Done}
 use Rattle.record_reader.proofs.Added.{record_of}
 use Rattle.record_reader.proofs.Complete.{complete_run}
-use Rattle.record_reader.proofs.Feeds.{IsFed, feed_cut, line_fed, no_feed_there}
+use Rattle.record_reader.proofs.Feeds.{feed_cut, line_fed, no_feed_there}
 use Rattle.record_reader.proofs.Grown.{logs_more, one_more_line}
 use Rattle.record_reader.proofs.Held.{Held, held_all, held_lines}
 use Rattle.record_reader.proofs.Kept.{held_whole, lines_right}
 use Rattle.record_reader.proofs.LineRead.{line-again, line-taken}
 use Rattle.record_reader.proofs.Runs.{run_append}
-use Rattle.record_reader.proofs.Viable.{Ending, ending_from}
+use Rattle.record_reader.proofs.Viable.{ending_from}
 
 abbrev texts : Plant → List Line → List ℕ
 texts plant lines = flat_map (line_text plant) lines
@@ -142,7 +142,7 @@ pub read_whole : (plant : Plant) (text : List ℕ) (logs : List AppLog) (rows : 
     IsReadTo plant text logs rows place rest line → length rest ≡ 0 → EndsAt place logs rows line (Ok r) → IsRecordText plant text r.cycles (run_of r)
 read_whole plant text logs rows place rest line r rules short read none (done, apps, journal) =
     let whole = ended_text plant r.cycles read.lines rules read.right
-        (omega (arith, rows_few read.lines, lines_short plant read.lines, ap length read.parts, length-append (texts plant read.lines) rest)) (read.ran ∙ ap (λ p. Some p) done) in
+    (omega (arith, rows_few read.lines, lines_short plant read.lines, ap length read.parts, length-append (texts plant read.lines) rest)) (read.ran ∙ ap (λ p. Some p) done) in
     let text_is : text ≡ texts plant read.lines = read.parts ∙ (ap (λ t. texts plant read.lines ++ t) (no_bytes rest none) ∙ append-nil (texts plant read.lines)) in
     let same : record_of (logs_in plant read.lines) (flat_map rows_in read.lines) ≡ run_of r =
     (λ i. record_of (sym (apps ∙ read.logs_are) i) (sym (journal ∙ read.rows_are) i)) in
@@ -175,7 +175,7 @@ goes_on plant [] all x rules fl fa same = record { tail = all; lines_are = refl;
 goes_on plant (l ∷ lines) [] x rules fl fa same = absurd (no_lines plant l (texts plant lines ++ x) (same ∙ append_assoc (line_text plant l) (texts plant lines) x))
 goes_on plant (l ∷ lines) (a ∷ all) x rules fl fa same =
     let (here, rest) = line_cut plant (2 ^ 32) (2 ^ 32) a l (texts plant all) (texts plant lines ++ x) rules (right_fit plant a fa.0) (right_fit plant l fl.0)
-        (same ∙ append_assoc (line_text plant l) (texts plant lines) x) in
+    (same ∙ append_assoc (line_text plant l) (texts plant lines) x) in
     let more = goes_on plant lines all x rules fl.1 fa.1 rest in
     record { tail = more.tail; lines_are = (λ i. here i ∷ more.lines_are i); text = more.text; right = more.right }
 
@@ -220,7 +220,7 @@ begins plant lines place rules right few ran =
     let same_rows : flat_map rows_in (lines ++ end.lines) ≡ flat_map rows_in lines =
     flat_map-append rows_in lines end.lines ∙ (ap (λ rs. flat_map rows_in lines ++ rs) end.none ∙ append-nil (flat_map rows_in lines)) in
     let whole = ended_text plant end.cycles (lines ++ end.lines) rules (All-more (IsRightLine plant) lines end.lines right end.right) (subst (λ rs. length rs < 2 ^ 64) (sym same_rows) few)
-        (run_append plant [] (start_of plant) place lines end.lines ran ∙ end.ran) in
+    (run_append plant [] (start_of plant) place lines end.lines ran ∙ end.ran) in
     record {
       cycles = end.cycles;
       r = record_of (logs_in plant (lines ++ end.lines)) (flat_map rows_in (lines ++ end.lines));
@@ -279,7 +279,7 @@ form_on plant rest a x y [] rules none plain is right text = no_start a y text
 form_on plant rest a x y (l ∷ tail) rules none plain is right text =
     let fed = line_fed plant l rules right.0 in
     let (same, left) = feed_cut fed.body a (texts plant tail) y fed.plain plain
-        (sym (append_assoc fed.body (10 ∷ []) (texts plant tail)) ∙ (ap (λ t. t ++ texts plant tail) (sym fed.fed) ∙ text)) in
+    (sym (append_assoc fed.body (10 ∷ []) (texts plant tail)) ∙ (ap (λ t. t ++ texts plant tail) (sym fed.fed) ∙ text)) in
     let again : rest ≡ line_text plant l ++ x =
     is ∙ (ap (λ b. b ++ 10 ∷ x) (sym same) ∙ (sym (append_assoc fed.body (10 ∷ []) x) ∙ ap (λ t. t ++ x) (sym fed.fed))) in
     none-some (l, x) (sym none ∙ (ap (line_read plant) again ∙ line-again plant l x rules right.0))
@@ -296,14 +296,23 @@ form_fault plant text logs rows place rest line rules short read some none =
     at_fault plant text logs rows place rest line rules short read
     (elim (split_feed rest) [
       | inl plain ↦
-          inr (plain, λ cycles r is.
-            let on = record_on plant read.lines rest cycles r rules read.right is in
-            piece_on plant rest on.tail rules plain some on.right on.text)
+          inr (
+            plain,
+            λ cycles r is.
+                let on = record_on plant read.lines rest cycles r rules read.right is in
+                piece_on plant rest on.tail rules plain some on.right on.text,
+          )
       | inr (a, x, plain, is) ↦
-          inl (a, x, plain, is, λ b.
-            let on = record_on plant read.lines (a ++ 10 ∷ b.rest) b.cycles b.r rules read.right
+          inl (
+            a,
+            x,
+            plain,
+            is,
+            λ b.
+                let on = record_on plant read.lines (a ++ 10 ∷ b.rest) b.cycles b.r rules read.right
                 (subst (λ t. IsRecordText plant t b.cycles b.r) (behind_line (texts plant read.lines) a b.rest) b.text) in
-            form_on plant rest a x b.rest on.tail rules none plain is on.right on.text)
+                form_on plant rest a x b.rest on.tail rules none plain is on.right on.text,
+          )
     ])
 
 step_on : (plant : Plant) (lines : List Line) (place : Place) (said : Line) (y : List ℕ) (cycles : ℕ) (tail : List Line) → MeetsRules plant → IsRightLine plant said →
@@ -322,11 +331,17 @@ step_fault plant text logs rows place rest left line said rules short read taken
     let (right, text_is) = line-taken plant rest (said, left) taken in
     let fed = line_fed plant said rules right in
     at_fault plant text logs rows place rest line rules short read
-    (inl (fed.body, left, fed.plain, text_is ∙ (ap (λ t. t ++ left) fed.fed ∙ append_assoc fed.body (10 ∷ []) left), λ b.
-      let on = record_on plant read.lines (fed.body ++ 10 ∷ b.rest) b.cycles b.r rules read.right
+    (inl (
+      fed.body,
+      left,
+      fed.plain,
+      text_is ∙ (ap (λ t. t ++ left) fed.fed ∙ append_assoc fed.body (10 ∷ []) left),
+      λ b.
+          let on = record_on plant read.lines (fed.body ++ 10 ∷ b.rest) b.cycles b.r rules read.right
           (subst (λ t. IsRecordText plant t b.cycles b.r) (behind_line (texts plant read.lines) fed.body b.rest) b.text) in
-      step_on plant read.lines place said b.rest b.cycles on.tail rules right read.ran (ap (λ rs. next plant rs place said) (sym read.rows_are) ∙ stop) on.right
-      (on.text ∙ (sym (append_assoc fed.body (10 ∷ []) b.rest) ∙ ap (λ t. t ++ b.rest) (sym fed.fed))) on.ran))
+          step_on plant read.lines place said b.rest b.cycles on.tail rules right read.ran (ap (λ rs. next plant rs place said) (sym read.rows_are) ∙ stop) on.right
+          (on.text ∙ (sym (append_assoc fed.body (10 ∷ []) b.rest) ∙ ap (λ t. t ++ b.rest) (sym fed.fed))) on.ran,
+    ))
 
 end_on : (plant : Plant) (lines : List Line) (place : Place) (cycles : ℕ) (tail : List Line) → run plant [] (start_of plant) lines ≡ Some place → ((cycles : ℕ) → ¬ (place ≡ Done cycles)) →
     texts plant tail ≡ [] → run plant [] (start_of plant) (lines ++ tail) ≡ Some (Done cycles) → ⊥
@@ -338,9 +353,12 @@ pub end_fault : (plant : Plant) (text : List ℕ) (logs : List AppLog) (rows : L
     IsReadTo plant text logs rows place rest line → length rest ≡ 0 → ((cycles : ℕ) → ¬ (place ≡ Done cycles)) → IsFirstFault plant text line
 end_fault plant text logs rows place rest line rules short read none open_ =
     at_fault plant text logs rows place rest line rules short read
-    (inr (subst HasNoFeed (sym (no_bytes rest none)) tt, λ cycles r is.
-      let on = record_on plant read.lines rest cycles r rules read.right is in
-      end_on plant read.lines place cycles on.tail read.ran open_ (on.text ∙ no_bytes rest none) on.ran))
+    (inr (
+      subst HasNoFeed (sym (no_bytes rest none)) tt,
+      λ cycles r is.
+          let on = record_on plant read.lines rest cycles r rules read.right is in
+          end_on plant read.lines place cycles on.tail read.ran open_ (on.text ∙ no_bytes rest none) on.ran,
+    ))
 
 -- ---- the whole reader
 

@@ -1,5 +1,5 @@
 -- A row is read from its line, and only from it.
-use Rattle.std.proofs.Common.{◌≡◌, ◌<◌, ◌≤◌, ◌+◌, ◌-◌, ◌^◌, ◌==◌, ℕ, zero, suc, ℤ, Bool, true, false, List, [], ◌∷◌, ◌++◌, length, Option, Some, None, refl, sym, ◌∙◌, ap, subst, arith, append_assoc, inl, inr}
+use Rattle.std.proofs.Common.{◌≡◌, ◌<◌, ◌^◌, ◌==◌, ℕ, ℤ, Bool, true, false, List, [], ◌∷◌, ◌++◌, length, Option, Some, None, refl, sym, ◌∙◌, ap, subst, inl, inr}
 use Rattle.std.specs.Prelude.{◌⊎◌, if◌then◌else◌, codes}
 use Rattle.std.proofs.lemmas.Bool.{eqb-true}
 use Rattle.std.proofs.lemmas.Option.{none-some, same_Some}
@@ -12,12 +12,11 @@ use Rattle.irt_base.specs.declared.numbers.PortNo.{PortNo}
 use Rattle.irt_base.specs.declared.plants.Plant.{Plant}
 use Rattle.irt_trace.specs.Journal.{begin_of, device_of, end_of_line, field, frame_field, letter_of, name_of, parcel_fields, queue_end, rest_of, row_line, time_field, times_end}
 use Rattle.plant_rules.specs.Meets.{MeetsRules}
-use Rattle.record_laws.specs.Fitting.{HasRange, IsParcelAt, IsRowOf, IsTime}
-use Rattle.record_laws.proofs.Fields.{Ends}
-use Rattle.record_laws.proofs.RowCut.{left3, rest-ends, three, two}
-use Rattle.record_reader.specs.Reading.{◌>>=◌, after_byte, after_bytes, begin_read, came_read, deliver_read, frame_read, lost_read, missed_read, number_read, occupy_read, parcel_read, port_read, queue_read, refused_read, row_read, row_rest_read, sent_read, time_read, times_read}
+use Rattle.record_laws.specs.Fitting.{HasRange, IsRowOf}
+use Rattle.record_laws.proofs.RowCut.{left3, rest-ends, two}
+use Rattle.record_reader.specs.Reading.{after_byte, after_bytes, begin_read, came_read, deliver_read, frame_read, lost_read, missed_read, occupy_read, parcel_read, port_read, queue_read, refused_read, row_read, row_rest_read, sent_read, time_read, times_read}
 use Rattle.record_reader.proofs.Values.{bind_some}
-use Rattle.record_reader.proofs.FieldsRead.{bind-again, byte_again, byte_taken, frame_read-again, frame_read-taken, number_read-again, number_read-taken, port_read-again, port_read-taken, time_read-again, time_read-taken}
+use Rattle.record_reader.proofs.FieldsRead.{bind-again, byte_taken, frame_read-again, frame_read-taken, port_read-again, port_read-taken, time_read-again, time_read-taken}
 use Rattle.record_reader.proofs.PartsRead.{begin-again, begin-taken, parcel-again, parcel-taken, queue-again, queue-taken, times-again, times-taken}
 
 -- what is read after a row's begin
@@ -247,12 +246,13 @@ unfolding row_read
 row-taken plant letter bytes y is =
     let (x, a, m) = bind_some (begin_read plant bytes) (λ x. row_rest_read letter x.0.0 x.0.1 x.1) y is in
     let (few, there, text) = begin-taken plant bytes x a in
-    let more = rest-taken letter x.0.0 x.0.1 x.1 y m in
-    (record {
-      cycle = subst (λ k. k < 2 ^ 32) (sym more.cycle_is) few;
-      device = subst (λ (d : DevId). d.0 < length plant.devices) (sym more.device_is) there;
-      range = more.range;
-    },
-    (λ i. sym more.letter_is i ∷ text i)
-    ∙ ((λ i. letter_of y.0 ∷ ((field (sym more.cycle_is i) ++ 32 ∷ name_of plant (sym more.device_is i).0) ++ more.text i))
-    ∙ sym (two (begin_of plant (letter_of y.0) (cycle_of y.0) (device_of y.0).0) (rest_of y.0) y.1)))
+    let more = rest-taken letter x.0.0 x.0.1 x.1 y m in (
+      record {
+        cycle = subst (λ k. k < 2 ^ 32) (sym more.cycle_is) few;
+        device = subst (λ (d : DevId). d.0 < length plant.devices) (sym more.device_is) there;
+        range = more.range;
+      },
+      (λ i. sym more.letter_is i ∷ text i)
+          ∙ ((λ i. letter_of y.0 ∷ ((field (sym more.cycle_is i) ++ 32 ∷ name_of plant (sym more.device_is i).0) ++ more.text i))
+          ∙ sym (two (begin_of plant (letter_of y.0) (cycle_of y.0) (device_of y.0).0) (rest_of y.0) y.1)),
+    )

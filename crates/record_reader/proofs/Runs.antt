@@ -1,36 +1,33 @@
 -- The lines of a record lead from the start to the end.
-use Rattle.std.proofs.Common.{◌≡◌, ◌≢◌, ◌<◌, ◌≤◌, ◌+◌, ◌-◌, ◌^◌, ◌==◌, ◌&&◌, ◌||◌, ℕ, zero, suc, Bool, true, false, cond, List, [], ◌∷◌, ◌++◌, length, nat_lt, nat_le, Option, Some, None, refl, sym, ◌∙◌, ap, subst, arith, append_assoc, append-nil, inl, inr}
-use Rattle.std.specs.Prelude.{◌⊎◌, if◌then◌else◌, slice_get, zip, position}
+use Rattle.std.proofs.Common.{◌≡◌, ◌<◌, ◌≤◌, ◌+◌, ◌-◌, ◌^◌, ◌==◌, ◌&&◌, ◌||◌, ℕ, zero, suc, Bool, true, false, cond, List, [], ◌∷◌, ◌++◌, length, nat_lt, nat_le, Option, Some, None, refl, sym, ◌∙◌, ap, subst, arith, append_assoc, append-nil, inl, inr}
+use Rattle.std.specs.Prelude.{◌⊎◌, if◌then◌else◌, slice_get, zip}
 use Rattle.std.specs.Option.{option_map_or}
-use Rattle.std.specs.List.{AllByRecursion, flat_map, range_with_len}
-use Rattle.std.proofs.lemmas.Bool.{cases_Bool}
+use Rattle.std.specs.List.{AllByRecursion, flat_map}
 use Rattle.std.proofs.lemmas.Bool.Decides.{nat_tests}
-use Rattle.std.proofs.lemmas.Grind.{flat_map-append}
-use Rattle.std.proofs.lemmas.Option.{none-some, same_Some}
+use Rattle.std.proofs.lemmas.Option.{same_Some}
 use Rattle.cycle_rows.specs.Rows.{cycle_of}
 use Rattle.cycle_rows.specs.declared.rows.JournalRow.{JournalRow}
-use Rattle.io_buffers.specs.Given.{Given}
 use Rattle.irt_base.specs.declared.limits.TheConstants.{MAX_CYCLES}
 use Rattle.irt_base.specs.declared.numbers.DevId.{DevId}
 use Rattle.irt_base.specs.declared.plants.App.{App}
 use Rattle.irt_base.specs.declared.plants.Plant.{Plant}
 use Rattle.iso_rules.specs.Image.{app_on}
-use Rattle.iso_rules.specs.Lockstep.{AppLog, RunRecord}
+use Rattle.iso_rules.specs.Lockstep.{AppLog}
 use Rattle.iso_rules.specs.declared.turn.Turn.{Turn}
 use Rattle.plant_rules.specs.Meets.{MeetsRules}
 use Rattle.record_laws.specs.Lines.{at_place, of_rows, of_turns, rows_in}
 use Rattle.record_laws.specs.declared.line.Line.{Line}
 use Rattle.record_laws.specs.declared.line.Line.TheVariants as says
 use Rattle.record_text.specs.Text.{lettered}
-use Rattle.record_reader.specs.Order.{StandInOrder, follows, stands_up_to}
+use Rattle.record_reader.specs.Order.{StandInOrder, follows}
 use Rattle.record_reader.specs.Reading.{◌>>=◌}
 use Rattle.record_reader.specs.Steps.{after_images, after_takes, are_counts, image_at, is_app, is_row_at, is_turn_at, next, row_at, run, take_at, turn_at}
 use Rattle.record_reader.specs.declared.place.Place.{Place}
-use Rattle.record_reader.specs.declared.place.Place.TheVariants.{Takes, Rows, Images, Turns, Done}
+use Rattle.record_reader.specs.declared.place.Place.TheVariants.{Takes, Rows, Images, Turns}
 use Rattle.record_reader.proofs.Values.{bind_some}
 use Rattle.record_reader.proofs.Grown.{app_at}
 use Rattle.record_reader.proofs.Added.{one}
-use Rattle.record_reader.proofs.Shape.{app_place, equal, within_of}
+use Rattle.record_reader.proofs.Shape.{app_place, within_of}
 
 -- ---- tests that pass
 
@@ -280,10 +277,13 @@ app_turns_run plant rows cycles at number n a [] rules is few behind = (at, numb
     at_most : Behind at number n → at ≤ n
     at_most (inl before) = omega arith
     at_most (inr here) = omega (arith, here.0)
-app_turns_run plant rows cycles at number n a (t ∷ ts) rules is few behind =
-    (n, 1 + length ts, omega arith,
-    first_line plant rows (Turns cycles at number) (Turns cycles n 1) (says.Turn a.device 0 t) (of_turns one a.device 1 ts) (Some (Turns cycles n (1 + length ts)))
-    (turn_step plant cycles at number n 0 a rules is (omega arith) (which behind)) refl (own_turns_run plant rows cycles n 1 a ts rules is (omega arith)))
+app_turns_run plant rows cycles at number n a (t ∷ ts) rules is few behind = (
+  n,
+  1 + length ts,
+  omega arith,
+  first_line plant rows (Turns cycles at number) (Turns cycles n 1) (says.Turn a.device 0 t) (of_turns one a.device 1 ts) (Some (Turns cycles n (1 + length ts)))
+      (turn_step plant cycles at number n 0 a rules is (omega arith) (which behind)) refl (own_turns_run plant rows cycles n 1 a ts rules is (omega arith)),
+)
   where
     which : Behind at number n → (((n == at) && (0 == number)) || (nat_lt at n && (0 == 0))) ≡ true
     which (inl before) = right_of ((n == at) && (0 == number)) (nat_lt at n && (0 == 0)) (both (nat_lt at n) (0 == 0) (under at n before) refl)

@@ -1,8 +1,8 @@
 -- What is known of a record at each place of its text, and how a line leads from one place to the next.
-use Rattle.std.proofs.Common.{◌≡◌, ◌≢◌, ◌<◌, ◌≤◌, ◌+◌, ◌-◌, ◌^◌, ◌==◌, ◌&&◌, ◌||◌, ℕ, zero, suc, Bool, true, false, cond, List, [], ◌∷◌, ◌++◌, length, set, get_or, nat_lt, nat_le, Option, Some, None, refl, sym, ◌∙◌, ap, subst, arith, append_assoc, append-nil, inl, inr, length-append}
-use Rattle.std.specs.Prelude.{◌⊎◌, if◌then◌else◌, ⊤, option_map, slice_get, unwrap_or, zip, position}
+use Rattle.std.proofs.Common.{◌≡◌, ◌≢◌, ◌<◌, ◌≤◌, ◌+◌, ◌-◌, ◌^◌, ◌==◌, ◌&&◌, ◌||◌, ℕ, zero, suc, Bool, true, false, List, [], ◌∷◌, ◌++◌, length, set, get_or, nat_lt, Option, Some, None, refl, sym, ◌∙◌, ap, subst, arith, inl, inr, length-append}
+use Rattle.std.specs.Prelude.{◌⊎◌, if◌then◌else◌, slice_get}
 use Rattle.std.specs.Option.{option_map_or}
-use Rattle.std.specs.List.{AllByRecursion, IsDistinct, flat_map, position_or_len, range_with_len}
+use Rattle.std.specs.List.{AllByRecursion, IsDistinct}
 use Rattle.std.proofs.lemmas.Bool.{cases_Bool, and_parts}
 use Rattle.std.proofs.lemmas.Bool.Decides.{nat_tests}
 use Rattle.std.proofs.lemmas.Option.{none-some, same_Some}
@@ -14,24 +14,22 @@ use Rattle.irt_base.specs.declared.numbers.DevId.{DevId}
 use Rattle.irt_base.specs.declared.plants.App.{App}
 use Rattle.irt_base.specs.declared.plants.Plant.{Plant}
 use Rattle.iso_rules.specs.Image.{app_on}
-use Rattle.iso_rules.specs.Lockstep.{AppLog, RunRecord}
+use Rattle.iso_rules.specs.Lockstep.{AppLog}
 use Rattle.iso_rules.specs.declared.turn.Turn.{Turn}
 use Rattle.plant_rules.specs.Meets.{MeetsRules}
 use Rattle.plant_rules.specs.Words.{same_app_device}
-use Rattle.record_laws.specs.Lines.{rows_in}
 use Rattle.record_laws.specs.declared.line.Line.{Line}
 use Rattle.record_laws.specs.declared.line.Line.TheVariants as says
 use Rattle.record_laws.proofs.RowCut.{device_same}
 use Rattle.record_text.specs.Grown.{with_image, with_take, with_turn}
 use Rattle.record_reader.specs.Grow.{with_line, with_log}
 use Rattle.record_reader.specs.Order.{StandInOrder, follows, stands_up_to}
-use Rattle.record_reader.specs.Reading.{◌>>=◌}
-use Rattle.record_reader.specs.Steps.{after_images, after_takes, image_at, is_app, is_row_at, is_turn_at, next, row_at, start_of, take_at, turn_at}
+use Rattle.record_reader.specs.Steps.{after_images, after_takes, image_at, is_app, is_row_at, is_turn_at, row_at, take_at, turn_at}
 use Rattle.record_reader.specs.declared.place.Place.{Place}
 use Rattle.record_reader.specs.declared.place.Place.TheVariants.{Takes, Rows, Images, Turns, Done}
 use Rattle.record_reader.proofs.Values.{bind_some, when_some}
 use Rattle.record_reader.proofs.Grown.{app_at, found_within, logged}
-use Rattle.record_reader.proofs.Added.{Before, Few, FewAfter, all_lines, image_added, images_count, one, row_added, take_added, takes_count, turn_added, turns_count}
+use Rattle.record_reader.proofs.Added.{Before, all_lines, image_added, images_count, row_added, take_added, takes_count, turn_added, turns_count}
 
 -- ---- what is known of the logs
 
@@ -170,10 +168,10 @@ length_kept (l ∷ logs) (suc n) new = ap (λ k. suc k) (length_kept logs n new)
 each_set : (count : AppLog → ℕ) (Has Was : ℕ → ℕ → Type 0) (logs : List AppLog) (n : ℕ) (new : AppLog) → Each count Was logs → Has n (count new) →
     ((m c : ℕ) → m ≢ n → m < length logs → Was m c → Has m c) → Each count Has (set logs n new)
 each_set count Has Was logs n new each here others = λ m o is.
-  elim (set_cases logs n new m o is) [
-    | inl x ↦ subst (λ k. Has k (count o)) (sym x.0) (subst (λ l. Has n (count l)) (sym x.1) here)
-    | inr x ↦ others m (count o) x.0 (within_of logs m o x.1) (each m o x.1)
-  ]
+    elim (set_cases logs n new m o is) [
+      | inl x ↦ subst (λ k. Has k (count o)) (sym x.0) (subst (λ l. Has n (count l)) (sym x.1) here)
+      | inr x ↦ others m (count o) x.0 (within_of logs m o x.1) (each m o x.1)
+    ]
 
 pub each_weaker : (count : AppLog → ℕ) (Has Was : ℕ → ℕ → Type 0) (logs : List AppLog) → Each count Was logs → ((m c : ℕ) → m < length logs → Was m c → Has m c) → Each count Has logs
 each_weaker count Has Was logs each weaker = λ m o is. weaker m (count o) (within_of logs m o is) (each m o is)
@@ -402,7 +400,7 @@ app_found [] d within = absurd (omega arith)
 app_found (a ∷ apps) d within =
     elim (cases_Bool (a.device.0 == d.0)) [
       | inl own ↦ let place : app_at (a ∷ apps) d.0 ≡ 0 = rw own refl in
-        record { app = a; is = ap (slice_get (a ∷ apps)) place; own = device_same a.device d (equal a.device.0 d.0 own) }
+          record { app = a; is = ap (slice_get (a ∷ apps)) place; own = device_same a.device d (equal a.device.0 d.0 own) }
       | inr other ↦
           let place : app_at (a ∷ apps) d.0 ≡ suc (app_at apps d.0) = rw other (one_more (app_at apps d.0)) in
           let more = app_found apps d (omega (arith, place, within)) in
@@ -411,7 +409,6 @@ app_found (a ∷ apps) d within =
   where
     one_more : (n : ℕ) → 1 + n ≡ suc n
     one_more n = omega arith
-
 
 pub turn_step : (plant : Plant) (limit cycles n number turn : ℕ) (device : DevId) (t : Turn) (apps : List AppLog) (rows : List JournalRow) (place : Place) → MeetsRules plant →
     Shape plant (Turns cycles n number) apps rows → turn_at plant cycles n number device turn ≡ Some place →

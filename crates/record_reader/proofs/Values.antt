@@ -1,11 +1,10 @@
 -- The text of a value is read as that value, and what is read is a text.
 use Rattle.std.proofs.Common.{◌≡◌, ◌<◌, ◌≤◌, ◌+◌, ◌-◌, ◌*◌, ◌/◌, ◌%◌, ◌^◌, ◌==◌, ◌&&◌, ℕ, zero, suc, ℤ, pos, negsuc, Bool, true, false, List, [], ◌∷◌, ◌++◌, length, drop, nat_le, nat_lt, Option, Some, None, refl, sym, ◌∙◌, ap, subst, arith, inl, inr}
-use Rattle.std.specs.Prelude.{if◌then◌else◌, decimal, bytes_eq, IfSome, position}
+use Rattle.std.specs.Prelude.{if◌then◌else◌, decimal, bytes_eq, IfSome}
 use Rattle.std.specs.Fmt.{signed_decimal}
-use Rattle.std.specs.List.{AllByRecursion, position_or_len}
-use Rattle.std.specs.Bool.{Decides}
+use Rattle.std.specs.List.{AllByRecursion}
 use Rattle.std.specs.Str.Parse.{digits_value}
-use Rattle.std.proofs.lemmas.Bool.{cases_Bool, and_from, and_parts, le-leb, leb-true, eqb-true}
+use Rattle.std.proofs.lemmas.Bool.{cases_Bool, and_parts, le-leb, leb-true, eqb-true}
 use Rattle.std.proofs.lemmas.Bool.Decides.{nat_tests}
 use Rattle.std.proofs.lemmas.Fmt.{decimal_is_IsNumeral, decimal_nonempty}
 use Rattle.std.proofs.lemmas.Int.{ints}
@@ -17,7 +16,7 @@ use Rattle.irt_base.specs.declared.numbers.FrameId.{FrameId}
 use Rattle.irt_base.proofs.TextLemmas.{hex_digits-suc, hex_digits-zero}
 use Rattle.record_laws.specs.Fitting.{IsTime}
 use Rattle.record_laws.proofs.Fields.{decimal-digits, minus_size, plus_size}
-use Rattle.record_reader.specs.Reading.{◌>>=◌, digit_of, flag_of, frame_of, frame_value, hex_value, negated, number_of, number_up_to, time_of, word_of}
+use Rattle.record_reader.specs.Reading.{◌>>=◌, digit_of, frame_of, frame_value, hex_value, negated, number_of, number_up_to, time_of, word_of}
 
 pub bytes-same : (xs ys : List ℕ) → xs ≡ ys → bytes_eq xs ys ≡ true
 bytes-same xs ys same = (bytes_eq-Decides xs ys).1 same

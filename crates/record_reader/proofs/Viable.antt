@@ -1,7 +1,7 @@
 -- From each place that lines lead to, some more lines lead to the end.
-use Rattle.std.proofs.Common.{◌≡◌, ◌<◌, ◌≤◌, ◌+◌, ◌^◌, ◌==◌, ◌&&◌, ℕ, zero, suc, Bool, true, false, List, [], ◌∷◌, ◌++◌, length, map, drop, nat_lt, nat_le, Option, Some, None, refl, sym, ◌∙◌, ap, subst, arith, append-nil, inl, inr}
-use Rattle.std.specs.Prelude.{◌⊎◌, if◌then◌else◌, replicate, slice_get, zip}
-use Rattle.std.specs.List.{AllByRecursion, count_by, flat_map}
+use Rattle.std.proofs.Common.{◌≡◌, ◌<◌, ◌≤◌, ◌+◌, ◌^◌, ◌==◌, ◌&&◌, ℕ, zero, suc, false, List, [], ◌∷◌, ◌++◌, length, map, drop, nat_lt, nat_le, Some, refl, sym, ◌∙◌, ap, arith, inl, inr}
+use Rattle.std.specs.Prelude.{if◌then◌else◌, replicate, slice_get}
+use Rattle.std.specs.List.{AllByRecursion, flat_map}
 use Rattle.std.proofs.lemmas.Bool.{cases_lt}
 use Rattle.std.proofs.lemmas.Bool.Decides.{nat_tests}
 use Rattle.std.proofs.lemmas.Grind.{flat_map-append}
@@ -9,29 +9,26 @@ use Rattle.std.proofs.lemmas.List.Sums.{count_by-le-length}
 use Rattle.std.proofs.lemmas.Option.{none-some}
 use Rattle.cycle_rows.specs.declared.rows.JournalRow.{JournalRow}
 use Rattle.io_buffers.specs.Given.{Given, given}
-use Rattle.io_buffers.specs.declared.taken.Taken.{Taken}
 use Rattle.irt_base.specs.declared.limits.TheConstants.{MAX_CYCLES}
-use Rattle.irt_base.specs.declared.numbers.DevId.{DevId}
 use Rattle.irt_base.specs.declared.plants.App.{App}
 use Rattle.irt_base.specs.declared.plants.Plant.{Plant}
 use Rattle.irt_trace.specs.Journal.{letter_of}
 use Rattle.iso_rules.specs.Lockstep.{AppLog}
-use Rattle.iso_rules.specs.declared.turn.Turn.{Turn}
 use Rattle.plant_rules.specs.Meets.{IsApp, MeetsRules}
 use Rattle.record_laws.specs.Fitting.{AreWords, IsTake}
 use Rattle.record_laws.specs.Lines.{at_place, last_of, rows_in}
 use Rattle.record_laws.specs.declared.line.Line.{Line}
 use Rattle.record_laws.specs.declared.line.Line.TheVariants as says
-use Rattle.record_laws.proofs.LinesFit.{All-each, All-more, All-place}
+use Rattle.record_laws.proofs.LinesFit.{All-more, All-place}
 use Rattle.record_text.specs.Text.{lettered}
-use Rattle.record_reader.specs.Reading.{◌>>=◌, input_words, output_words}
+use Rattle.record_reader.specs.Reading.{input_words, output_words}
 use Rattle.record_reader.specs.Right.{IsRightLine}
-use Rattle.record_reader.specs.Steps.{after_images, after_takes, are_counts, next, run}
+use Rattle.record_reader.specs.Steps.{are_counts, run}
 use Rattle.record_reader.specs.declared.place.Place.{Place}
 use Rattle.record_reader.specs.declared.place.Place.TheVariants.{Takes, Rows, Images, Turns, Done}
 use Rattle.record_reader.proofs.Added.{one}
 use Rattle.record_reader.proofs.Complete.{last_run, no_rows_of_images, no_rows_of_takes, with_none}
-use Rattle.record_reader.proofs.Runs.{From, Has, both, counts_pass, equals, first_images_run, from_all, gives, images_lines, images_run, run_append, takes_lines, takes_run, under, up_to}
+use Rattle.record_reader.proofs.Runs.{From, Has, both, counts_pass, equals, first_images_run, gives, images_lines, images_run, run_append, takes_lines, takes_run, under, up_to}
 use Rattle.record_reader.proofs.Shape.{IsInBounds}
 
 -- ---- zeros for an app

@@ -6,7 +6,7 @@ use Rattle.record_text.specs.declared.record.Record.{Record}
 use Rattle.record_reader.specs.declared.fault.RecordFault.{RecordFault}
 use Rattle.record_reader.specs.declared.fault.RecordFault.TheVariants as faults
 use Rattle.record_reader.specs.declared.place.Place.{Place}
-use Rattle.record_reader.specs.declared.place.Place.TheVariants.{Takes, Rows, Images, Turns, Done}
+use Rattle.record_reader.specs.declared.place.Place.TheVariants.{Done}
 
 -- the number of a line that is not read
 abbrev pub IsUnread : {Y : Type 0} → ℕ → RecordFault → Option Y → Type 0

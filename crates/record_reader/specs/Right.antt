@@ -1,5 +1,5 @@
 -- Lines whose numbers are of the types that hold them, and whose words are as many as the plant gives.
-use Rattle.std.specs.Prelude.{◌≡◌, ℕ, ◌^◌, ◌<◌, length}
+use Rattle.std.specs.Prelude.{◌≡◌, ◌^◌, ◌<◌, length}
 use Rattle.irt_base.specs.declared.plants.Plant.{Plant}
 use Rattle.record_laws.specs.Fitting.{AreWords, IsRowOf, IsTake, IsTurn}
 use Rattle.record_laws.specs.declared.line.Line.{Line}

@@ -79,11 +79,7 @@ fn number_up_to(text: &[u8], max: u64) -> Result<u64, Form>
     ensures fits { IfOk result (λ n. n ≤ max) }
 {
     let number = number_of(text)?;
-    if number <= max {
-        Ok(number)
-    } else {
-        Err(Form)
-    }
+    if number <= max { Ok(number) } else { Err(Form) }
 }
 
 /// A number up to another one.
@@ -227,7 +223,9 @@ fn read_flag(bytes: &[u8]) -> Result<(bool, &[u8]), Form>
 fn first_named(devices: &[Device], name: &[u8]) -> Option<usize>
     ensures { result ≡ position (λ (d : Device). bytes_eq d.name name.now) devices.now }
 {
-    devices.iter().position(|device| device.name.as_slice() == name)
+    devices
+        .iter()
+        .position(|device| device.name.as_slice() == name)
 }
 
 fn device_of_name(plant: &Plant, name: &[u8]) -> Result<DevId, Form>

@@ -182,11 +182,7 @@ fn read_last(bytes: &[u8]) -> Result<(Line, &[u8]), Form>
     ))
 }
 
-fn read_row_line<'a>(
-    plant: &Plant,
-    letter: u8,
-    bytes: &'a [u8],
-) -> Result<(Line, &'a [u8]), Form>
+fn read_row_line<'a>(plant: &Plant, letter: u8, bytes: &'a [u8]) -> Result<(Line, &'a [u8]), Form>
     requires { length plant.now.devices ≤ 256 }
     ensures { GivesForm (λ x. (x.0, x.1.now)) result (row_line_read plant.now letter bytes.now) }
 {

@@ -18,11 +18,19 @@ use record_text::{cycle_of, lettered};
 #[derive(Clone, Copy, Debug, PartialEq, Eq)]
 pub(crate) enum Place {
     /// In a cycle the takes of the apps before this one.
-    Takes { cycle: u32, app: usize },
+    Takes {
+        cycle: u32,
+        app: usize,
+    },
     /// All takes of a cycle, and some rows.
-    Rows { cycle: u32 },
+    Rows {
+        cycle: u32,
+    },
     /// All rows of a cycle, and the images of the apps before this one.
-    Images { cycle: u32, app: usize },
+    Images {
+        cycle: u32,
+        app: usize,
+    },
     /// So many cycles, and so many turns of an app, after all turns of the apps before it.
     Turns {
         cycles: u32,
@@ -30,7 +38,9 @@ pub(crate) enum Place {
         number: u64,
     },
     /// The whole record.
-    Done { cycles: u32 },
+    Done {
+        cycles: u32,
+    },
 }
 
 /// The place before the first line.
@@ -66,25 +76,24 @@ fn after_images(apps: usize, cycle: u32, app: usize) -> Place
 }
 
 /// The place after one more line, where these are the rows before it.
-pub(crate) fn next(
-    plant: &Plant,
-    rows: &[JournalRow],
-    place: Place,
-    line: &Line,
-) -> Option<Place>
+pub(crate) fn next(plant: &Plant, rows: &[JournalRow], place: Place, line: &Line) -> Option<Place>
     ensures { result ≡ next plant.now rows.now place line.now }
 {
     match place {
         Place::Takes { cycle, app } => match line {
             Line::Take {
-                cycle: at, device, ..
+                cycle: at,
+                device,
+                ..
             } => take_at(plant, cycle, app, *at, *device),
             _ => None,
         },
         Place::Rows { cycle } => after_rows(plant, rows, cycle, line),
         Place::Images { cycle, app } => match line {
             Line::Image {
-                cycle: at, device, ..
+                cycle: at,
+                device,
+                ..
             } => image_at(plant, cycle, app, *at, *device),
             _ => None,
         },
@@ -103,7 +112,9 @@ fn after_rows(plant: &Plant, rows: &[JournalRow], cycle: u32, line: &Line) -> Op
     match line {
         Line::Row(row) => row_at(plant, rows, cycle, *row),
         Line::Image {
-            cycle: at, device, ..
+            cycle: at,
+            device,
+            ..
         } => image_at(plant, cycle, 0, *at, *device),
         Line::Last {
             cycles,
@@ -133,7 +144,9 @@ fn after_turns(
 {
     match line {
         Line::Take {
-            cycle: at, device, ..
+            cycle: at,
+            device,
+            ..
         } => {
             if app == 0 && number == 0 && cycles < MAX_CYCLES {
                 take_at(plant, cycles, 0, *at, *device)
@@ -152,8 +165,7 @@ fn after_turns(
             delivered,
             dropped,
         } => {
-            let is_right =
-                *last == cycles && are_counts(rows, *occupied, *delivered, *dropped);
+            let is_right = *last == cycles && are_counts(rows, *occupied, *delivered, *dropped);
             is_right.then_some(Place::Done { cycles: *last })
         }
         _ => None,
@@ -236,7 +248,11 @@ fn turn_at(
 pub(crate) fn app_on(plant: &Plant, device: DevId) -> Option<usize>
     ensures { result ≡ app_on plant.now device.0 }
 {
-    plant.apps.as_slice().iter().position(|app| app.device.0 == device.0)
+    plant
+        .apps
+        .as_slice()
+        .iter()
+        .position(|app| app.device.0 == device.0)
 }
 
 /// The next turn of the app, or the first one of a later app.

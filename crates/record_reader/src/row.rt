@@ -4,17 +4,16 @@ ghost use Rattle.std.specs.Prelude.{◌≡◌, ◌≤◌, ◌<◌, ◌^◌, IfOk
 ghost use Rattle.record_reader.specs.Reading.{GivesForm, begin_read, came_read, deliver_read, lost_read, missed_read, occupy_read, parcel_read, queue_read, refused_read, row_read, row_rest_read, sent_read, times_read};
 
 use crate::fault::Form;
-use crate::field::{after_byte, after_step, read_device, read_frame, read_number, read_port, read_time};
+use crate::field::{
+    after_byte, after_step, read_device, read_frame, read_number, read_port, read_time,
+};
 use cycle_rows::rows::JournalRow;
 use irt_base::numbers::{DevId, Ns, PortNo};
 use irt_base::plants::Plant;
 
 /// The cycle and the device of a line.
 #[tactic(auto, unfolding(crate::specs::Reading::begin_read))]
-pub(crate) fn read_begin<'a>(
-    plant: &Plant,
-    bytes: &'a [u8],
-) -> Result<(u32, DevId, &'a [u8]), Form>
+pub(crate) fn read_begin<'a>(plant: &Plant, bytes: &'a [u8]) -> Result<(u32, DevId, &'a [u8]), Form>
     requires { length plant.now.devices ≤ 256 }
     ensures { GivesForm (λ x. ((x.0, x.1), x.2.now)) result (begin_read plant.now bytes.now) }
 {

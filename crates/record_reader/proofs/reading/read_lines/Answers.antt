@@ -19,8 +19,12 @@ returns-in_err-at-clause-refused c =
 
 pub overflow_add-line : goal.overflow_add-line
 overflow_add-line c =
-    omega (arith, read_few c.args.plant.now c.args.text.now c.loop-rest.logs.items c.loop-rest.journal c.loop-rest.at c.loop-rest.rest.now
-    c.loop-rest.line c.loop-rest.invariant (sym c.is_empty.ensures ∙ c.loop-rest-test.true), c.requires.short)
+    omega (
+      arith,
+      read_few c.args.plant.now c.args.text.now c.loop-rest.logs.items c.loop-rest.journal c.loop-rest.at c.loop-rest.rest.now
+          c.loop-rest.line c.loop-rest.invariant (sym c.is_empty.ensures ∙ c.loop-rest-test.true),
+      c.requires.short,
+    )
 
 pub loop-rest-smaller : goal.loop-rest-smaller
 loop-rest-smaller c = read_shorter c.args.plant.now c.loop-rest.rest.now c.in_ok-said.after.now c.in_ok-said.said c.in_ok-said.ensures
