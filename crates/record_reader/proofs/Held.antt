@@ -27,7 +27,8 @@ use Rattle.record_reader.proofs.Values.{bind_some, when_some}
 use Rattle.record_reader.proofs.Grown.{logs_more, one_more_line}
 use Rattle.record_reader.proofs.Growth.{range_none}
 use Rattle.record_reader.proofs.Added.{all_lines, cycle_none, images_count, no_more, one, record_of, takes_count, turns_count, turns_none}
-use Rattle.record_reader.proofs.Shape.{Added, HasTurns, Shape, TakesRead, before_more, below, each_weaker, equal, image_step, no_log_there, row_step, take_step, takes_shape, turn_step}
+use Rattle.record_reader.proofs.Shape.{Added, HasTurns, Shape, TakesRead, before_more, below, each_weaker, equal, image_step, take_step, takes_shape}
+use Rattle.record_reader.proofs.TurnShape.{no_log_there, row_step, turn_step}
 
 -- the line that ends a whole record
 abbrev pub ending : Place → List JournalRow → List Line

@@ -29,7 +29,8 @@ use Rattle.record_reader.specs.Whole.{HasWordCounts, IsWholeRecord}
 use Rattle.record_reader.specs.declared.place.Place.TheVariants.{Done}
 use Rattle.record_reader.proofs.Added.{Before, one, record_of}
 use Rattle.record_reader.proofs.Held.{Held}
-use Rattle.record_reader.proofs.Shape.{cycle_up_to, equal}
+use Rattle.record_reader.proofs.Shape.{equal}
+use Rattle.record_reader.proofs.TurnShape.{cycle_up_to}
 
 -- ---- what right lines say of an app
 

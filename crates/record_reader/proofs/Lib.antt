@@ -8,6 +8,7 @@ pub mod Grown
 pub mod Growth
 pub mod Added
 pub mod Shape
+pub mod TurnShape
 pub mod Held
 pub mod Runs
 pub mod Complete
@@ -15,3 +16,4 @@ pub mod Kept
 pub mod Viable
 pub mod Feeds
 pub mod Reader
+pub mod Faults

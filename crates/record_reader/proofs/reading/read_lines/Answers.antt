@@ -1,6 +1,7 @@
 use Rattle.std.proofs.Common.{◌∙◌, sym, arith}
 use Rattle.std.proofs.lemmas.Result.{err_from_is_err_and}
-use Rattle.record_reader.proofs.Reader.{found_end, place_fault, read_few, read_more, read_shorter, refused_end, said_fault}
+use Rattle.record_reader.proofs.Reader.{read_few, read_more, read_shorter}
+use Rattle.record_reader.proofs.Faults.{found_end, place_fault, refused_end, said_fault}
 use Rattle.record_reader.proofs.reading.read_lines.Goals as goal
 
 pub returns-in_err-said-clause-refused : goal.returns-in_err-said-clause-refused

@@ -1,4 +1,4 @@
-use Rattle.record_reader.proofs.Reader.{only_answer}
+use Rattle.record_reader.proofs.Faults.{only_answer}
 use Rattle.record_reader.proofs.reading.read_record.Goals as goal
 
 pub returns-clause-only : goal.returns-clause-only
