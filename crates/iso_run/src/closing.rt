@@ -6,7 +6,7 @@ ghost use Rattle.iso_run.specs.Logs.{log_from, logs_from};
 use crate::apps::LockstepApp;
 use irt_base::list::Items;
 use irt_base::memory::NoMemory;
-use iso_plant::plant::AppHistory;
+use iso_plant::history::AppHistory;
 use record_text::record::AppRecord;
 use std::alloc::Global;
 use std::mem;
@@ -16,7 +16,8 @@ fn close_app<A: Drop>(alloc: Global, app: &mut LockstepApp<A>, history: AppHisto
     ensures { result ≡ log_from app.old history }
 {
     let turns = mem::replace(&mut app.turns, Items::new(alloc));
-    AppRecord::new(history.takes, history.images, turns)
+    let (takes, images) = history.into_lists();
+    AppRecord::new(takes, images, turns)
 }
 
 /// What a run leaves of all applications, in the plant's order.

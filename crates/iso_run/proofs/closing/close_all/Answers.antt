@@ -2,7 +2,7 @@ use Rattle.std.proofs.Common.{◌≡◌, ◌∙◌, ◌+◌, ap, arith, length, 
 use Rattle.std.proofs.lemmas.List.{length_push, length-set}
 use Rattle.std.proofs.lemmas.Option.{slice_get_read}
 use Rattle.std.specs.Vec.Iter.{into_iter_items}
-use Rattle.iso_plant.specs.declared.plant.AppHistory.{AppHistory}
+use Rattle.iso_plant.specs.History.{AppCycles}
 use Rattle.iso_run.specs.Logs.{log_from}
 use Rattle.iso_run.specs.declared.apps.LockstepApp.{LockstepApp}
 use Rattle.iso_run.proofs.OpenedApps.{opened_all, opened_next, others_stay, rest_next}
@@ -32,9 +32,9 @@ loop-history-preserved g c =
       count = length-set c.loop-history.apps.items c.len-in-loop-history.result c.close_app.new.app ∙ counted;
       same = others_stay c.args.apps.items c.loop-history.apps.items k (length c.push.new.self) c.len-in-loop-history.result c.close_app.new.app i.same number more;
       records =
-          opened_next (λ (p : LockstepApp g.row.A.Denot × AppHistory). log_from p.0 p.1) c.args.apps.items c.args.histories _ k app c.in-Some.history
+          opened_next (λ (p : LockstepApp g.row.A.Denot × AppCycles). log_from p.0 p.1) c.args.apps.items c.args.histories _ k app c.in-Some.history
           c.loop-history.records c.push.new.self c.close_app.result at (sym next ∙ i.rest) i.records pushed c.close_app.ensures
-          ∙ ap (λ m. map (λ (p : LockstepApp g.row.A.Denot × AppHistory). log_from p.0 p.1) (take m (zip c.args.apps.items c.args.histories))) (sym more);
+          ∙ ap (λ m. map (λ (p : LockstepApp g.row.A.Denot × AppCycles). log_from p.0 p.1) (take m (zip c.args.apps.items c.args.histories))) (sym more);
     }
 
 pub returns : goal.returns
