@@ -1,0 +1,4 @@
+pub mod Size
+pub mod World
+pub mod Run
+pub mod Safe

@@ -1,0 +1,33 @@
+-- The lockstep run of an accepted plan with the applications that its plant names, and its text.
+use Rattle.std.specs.Prelude.{◌≡◌, ℕ, List, map}
+use Rattle.irt_base.specs.declared.blocks.Bundle.{Bundle}
+use Rattle.irt_base.specs.declared.numbers.PortNo.{PortNo}
+use Rattle.irt_base.specs.declared.plants.Plant.{Plant}
+use Rattle.irt_world.specs.declared.rows.World.{World}
+use Rattle.iso_app.specs.Kinds.{kind_of, reply_of, state_after}
+use Rattle.iso_app.specs.declared.kinds.AppKind.{AppKind}
+use Rattle.iso_run.specs.Run.{IsRunRecord}
+use Rattle.record_text.specs.Text.{record_text, run_of}
+use Rattle.record_text.specs.declared.record.Record.{Record}
+
+-- the applications of a plant before their first turn
+abbrev pub kinds_of : Plant → List AppKind
+kinds_of plant = map kind_of plant.apps
+
+abbrev pub next_kind : AppKind → List ℕ → ℕ → AppKind
+next_kind app input count = state_after app input
+
+-- the record of the lockstep run with these applications
+abbrev pub IsRecordOf : Plant → List Bundle → List (List PortNo) → World → Record → Type 0
+IsRecordOf plant bundles walks world record_of_run =
+    IsRunRecord reply_of next_kind plant bundles walks world (kinds_of plant) record_of_run
+
+-- the text of a record of a plant
+abbrev pub text_of : Plant → Record → List ℕ
+text_of plant r = record_text plant r.cycles (run_of r)
+
+-- a text is that of the run's record
+pub record IsRunText (plant : Plant) (bundles : List Bundle) (walks : List (List PortNo)) (world : World) (text : List ℕ) : Type 0 where
+  pub log : Record
+  pub is_record : IsRecordOf plant bundles walks world log
+  pub says : text ≡ text_of plant log

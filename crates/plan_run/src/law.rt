@@ -1,0 +1,59 @@
+//! The laws of runs.
+
+ghost use Rattle.std.specs.Prelude.{◌≡◌, ℕ, ◌≤◌, List, length};
+ghost use Rattle.irt_base.specs.Wiring.{peer_of};
+ghost use Rattle.irt_base.specs.declared.blocks.Bundle.{Bundle};
+ghost use Rattle.irt_base.specs.declared.numbers.PortNo.{PortNo};
+ghost use Rattle.irt_base.specs.declared.plants.Plant.{Plant};
+ghost use Rattle.irt_route.specs.Routes.{AreReached, AreTrafficWalks, IsUnreached};
+ghost use Rattle.irt_world.specs.Rows.{Fits};
+ghost use Rattle.irt_world.specs.declared.rows.World.{World};
+ghost use Rattle.plan_rules.specs.Places.{IsAccepted};
+ghost use Rattle.plan_rules.specs.Plan.{IsPlan};
+ghost use Rattle.plan_run.specs.Run.{IsRecordOf, IsRunText};
+ghost use Rattle.plan_run.specs.Safe.{IsSafeRun};
+ghost use Rattle.plan_run.specs.World.{IsSeedWorld};
+ghost use Rattle.record_text.specs.declared.record.Record.{Record};
+
+use iso_app::kinds::AppKind;
+use iso_rules::law::{lockstep_records_are_legal, lockstep_runs_are_one};
+use irt_route::laws::{fronts_of_best_walks, parents_of_trees};
+use irt_world::law::fitting_worlds_are_in_range;
+use parcel_rules::law::parcels_of_accepted_plans_are_apart;
+
+/// The record of a run of accepted blocks over any world in range is safe.
+pub fn runs_of_accepted_plans_are_safe()
+    ensures { (plant : Plant) (bundles : List Bundle) → IsPlan plant bundles → IsAccepted plant bundles →
+        (walks : List (List PortNo)) (world : World) (r : Record) → Fits plant bundles world → 1 ≤ length world.rows →
+        IsRecordOf plant bundles walks world r → IsSafeRun plant bundles walks world r }
+{
+    fitting_worlds_are_in_range();
+    parcels_of_accepted_plans_are_apart();
+    lockstep_records_are_legal::<AppKind>();
+}
+
+/// A run has one text.
+pub fn run_texts_are_one()
+    ensures { (plant : Plant) (bundles : List Bundle) (walks : List (List PortNo)) (world : World) (text other : List ℕ) →
+        IsRunText plant bundles walks world text → IsRunText plant bundles walks world other → text ≡ other }
+{
+    lockstep_runs_are_one::<AppKind>();
+}
+
+/// A seed has one world, and a plant's traffic one list of walks.
+pub fn worlds_and_walks_are_one()
+    ensures worlds { (plant : Plant) (bundles : List Bundle) (seed cycles : ℕ) (world other : World) →
+        IsSeedWorld plant bundles seed cycles world → IsSeedWorld plant bundles seed cycles other → world ≡ other }
+    ensures walks { (plant : Plant) (walks others : List (List PortNo)) →
+        AreTrafficWalks (peer_of plant) plant.traffic walks → AreTrafficWalks (peer_of plant) plant.traffic others →
+        walks ≡ others }
+{
+    fronts_of_best_walks();
+    parents_of_trees();
+}
+
+/// In an accepted plan a walk leads to every consumer.
+pub fn accepted_plans_reach_consumers()
+    ensures { (plant : Plant) (bundles : List Bundle) → IsPlan plant bundles → IsAccepted plant bundles →
+        (frame device : ℕ) → ¬ IsUnreached (peer_of plant) plant.demands frame device }
+{}
