@@ -1,0 +1,6 @@
+mod Reached
+mod OneWorld
+mod OneText
+mod SafeRuns
+mod Headers
+mod Words

@@ -17,9 +17,10 @@ ghost use Rattle.record_text.specs.declared.record.Record.{Record};
 
 use iso_app::kinds::AppKind;
 use iso_rules::law::{lockstep_records_are_legal, lockstep_runs_are_one};
-use irt_route::laws::{fronts_of_best_walks, parents_of_trees};
+use irt_route::laws::fronts_of_best_walks;
 use irt_world::law::fitting_worlds_are_in_range;
 use parcel_rules::law::parcels_of_accepted_plans_are_apart;
+use sync_world::law::ptcp_worlds_are_one;
 
 /// The record of a run of accepted blocks over any world in range is safe.
 pub fn runs_of_accepted_plans_are_safe()
@@ -49,7 +50,7 @@ pub fn worlds_and_walks_are_one()
         walks ≡ others }
 {
     fronts_of_best_walks();
-    parents_of_trees();
+    ptcp_worlds_are_one();
 }
 
 /// In an accepted plan a walk leads to every consumer.

@@ -1,10 +1,12 @@
 //! The world of a seed.
 
-ghost use Rattle.std.specs.Prelude.{◌≡◌, ◌≤◌, IfOk};
+ghost use Rattle.std.specs.Prelude.{◌≡◌, ◌≤◌, IfOk, Some, length, slice_get};
 ghost use Rattle.irt_base.specs.declared.limits.TheConstants.{MAX_CYCLES};
 ghost use Rattle.irt_base.specs.declared.plants.Clocks.TheVariants as clocks;
 ghost use Rattle.irt_route.specs.Clocks.{IsClockTreeOf};
 ghost use Rattle.irt_world.specs.Rows.{Fits};
+ghost use Rattle.plan_rules.specs.Places.{IsAccepted};
+ghost use Rattle.plan_rules.specs.Plan.{IsPlan};
 ghost use Rattle.plan_run.specs.World.{IsPtcpWorld, IsSeedWorld, timeouts_of};
 ghost use Rattle.plant_rules.specs.Meets.{MeetsRules};
 
@@ -40,31 +42,41 @@ pub fn seed_world(
     accepted.facts();
     match accepted.plant().clocks {
         Clocks::World => seeded(alloc, seed, accepted.plant(), accepted.bundles(), cycles),
-        Clocks::Ptcp => heard_world(alloc, accepted, cycles, seed),
+        Clocks::Ptcp => {
+            heard_world(alloc, accepted.plant(), accepted.bundles(), cycles, seed)
+        }
     }
 }
 
-/// The world that PTCP makes of a plan, whose plant's clocks are by it.
+/// The world that PTCP makes of an accepted plan, whose plant's clocks are by it.
 fn heard_world(
     alloc: Global,
-    accepted: &Accepted,
+    plant: &Plant,
+    bundles: &[Bundle],
     cycles: u32,
     seed: u64,
 ) -> Result<World, NoMemory>
+    requires plan { IsPlan plant.now bundles.now }
+    requires accepted { IsAccepted plant.now bundles.now }
+    requires ptcp { plant.now.clocks ≡ clocks.Ptcp }
     requires cycles { cycles ≤ MAX_CYCLES }
-    requires ptcp { accepted.now.plant.clocks ≡ clocks.Ptcp }
-    ensures world { IfOk result (IsPtcpWorld accepted.now.plant accepted.now.bundles seed cycles) }
-    ensures fits { IfOk result (Fits accepted.now.plant accepted.now.bundles) }
+    ensures world { IfOk result (IsPtcpWorld plant.now bundles.now seed cycles) }
+    ensures fits { IfOk result (Fits plant.now bundles.now) }
 {
-    accepted.facts();
     accepted_plans_have_budgets();
-    let plant = accepted.plant();
-    let bundles = accepted.bundles();
     let tree = tree_of(alloc, plant)?;
     let timeouts = timeouts_of(alloc, bundles)?;
-    let send = bundles[0].sync.send;
     let timeouts = timeouts.as_slice();
+    let send = first_of(bundles).sync.send;
     ptcp_world(alloc, seed, plant, bundles, &tree, send, timeouts, cycles)
+}
+
+/// The blocks of device 0.
+fn first_of(bundles: &[Bundle]) -> &Bundle
+    requires { 1 ≤ length bundles.now }
+    ensures { slice_get bundles.now 0 ≡ Some result.now }
+{
+    &bundles[0]
 }
 
 /// The clock tree of a plant whose clocks are by PTCP: its rules say that each device has one.

@@ -4,6 +4,7 @@ use Rattle.std.specs.List.{range_with_len}
 use Rattle.std.proofs.lemmas.Bool.{cases_lt}
 use Rattle.irt_base.specs.Cycle.{budget_time}
 use Rattle.irt_base.specs.Wiring.{peer_of}
+use Rattle.irt_base.specs.declared.blocks.Bundle.{Bundle}
 use Rattle.irt_base.specs.declared.numbers.DevId.{DevId}
 use Rattle.irt_base.specs.declared.numbers.PortNo.{PortNo}
 use Rattle.irt_base.specs.declared.plants.Plant.{Plant}
@@ -11,10 +12,12 @@ use Rattle.irt_route.specs.Clocks.{ClockTable, IsClockTreeOf, IsDevice, clock_pa
 use Rattle.irt_route.specs.Routes.{IsAmong}
 use Rattle.irt_route.specs.Trees.{IsTreeStep}
 use Rattle.irt_route.specs.Walks.{Peers, IsBestWalk}
+use Rattle.irt_world.specs.Forwardings.{forwardings}
 use Rattle.sync_world.specs.Clocks.{heard_errors}
 use Rattle.sync_world.specs.Domain.{clock_line, delay_from, delay_of, device_of, domain_of, walk_up}
 use Rattle.sync_world.specs.Lines.{measured, syncs_in}
 use Rattle.sync_world.specs.Report.{muted_in, report_line, report_lines, worst_in}
+use Rattle.sync_world.specs.World.{ptcp_row, ptcp_rows}
 use Rattle.sync_world.specs.declared.domain.ClockLine.{ClockLine}
 use Rattle.sync_world.specs.declared.domain.Domain.{Domain}
 use Rattle.sync_world.specs.declared.lines.TheConstants.{FIRST_EXCHANGES}
@@ -98,3 +101,8 @@ module _ (laws : WalkLaws) (plant : Plant) (tree other : ClockTable) (is : IsClo
       ap (λ (d : Domain). map (report_line plant tree d cycles) (range_with_len 1 (length plant.devices - 1))) (same_domain seed plant.sync.send)
       ∙ same_range (report_line plant tree domain cycles) (report_line plant other domain cycles) 1 (length plant.devices - 1)
       (λ k above below. same_report domain cycles k (same_hops k (omega arith)))
+
+  pub one_ptcp_world : (bundles : List Bundle) (seed send : ℕ) (timeouts : List ℕ) (cycles : ℕ) →
+      ptcp_rows seed plant bundles tree send timeouts cycles ≡ ptcp_rows seed plant bundles other send timeouts cycles
+  one_ptcp_world bundles seed send timeouts cycles =
+      ap (λ (d : Domain). map (ptcp_row d plant (forwardings plant bundles) timeouts) (range_with_len 0 cycles)) (same_domain seed send)

@@ -16,7 +16,7 @@ ghost use Rattle.sync_world.specs.Domain.{IsDomain, delay_of, walk_of};
 ghost use Rattle.sync_world.specs.Events.{AreInTurn, Deliveries, events_to};
 ghost use Rattle.sync_world.specs.Lines.{measured};
 ghost use Rattle.sync_world.specs.Report.{report_lines};
-ghost use Rattle.sync_world.specs.World.{HasBudgets};
+ghost use Rattle.sync_world.specs.World.{HasBudgets, ptcp_rows};
 ghost use Rattle.sync_world.specs.declared.domain.Domain.{Domain};
 
 use irt_route::laws::{fronts_of_best_walks, parents_of_trees};
@@ -53,6 +53,16 @@ pub fn devices_mute_as_slaves()
 pub fn reports_are_one()
     ensures { (seed : ℕ) (plant : Plant) (tree other : ClockTable) (cycles : ℕ) → IsClockTreeOf plant tree →
         IsClockTreeOf plant other → report_lines seed plant tree cycles ≡ report_lines seed plant other cycles }
+{
+    fronts_of_best_walks();
+    parents_of_trees();
+}
+
+/// A plant has one world by PTCP for a seed: any two clock trees of it give the same rows.
+pub fn ptcp_worlds_are_one()
+    ensures { (seed : ℕ) (plant : Plant) (bundles : List Bundle) (tree other : ClockTable) (send : ℕ) (timeouts : List ℕ)
+        (cycles : ℕ) → IsClockTreeOf plant tree → IsClockTreeOf plant other →
+        ptcp_rows seed plant bundles tree send timeouts cycles ≡ ptcp_rows seed plant bundles other send timeouts cycles }
 {
     fronts_of_best_walks();
     parents_of_trees();

@@ -1,0 +1,35 @@
+-- A run has one text.
+use Rattle.std.proofs.Common.{◌≡◌, ℕ, List, length, sym, ◌∙◌, ap}
+use Rattle.cycle_rows.specs.Journal.{IsJournal}
+use Rattle.cycle_rows.specs.declared.rows.JournalRow.{JournalRow}
+use Rattle.irt_base.specs.declared.blocks.Bundle.{Bundle}
+use Rattle.irt_base.specs.declared.numbers.PortNo.{PortNo}
+use Rattle.irt_base.specs.declared.plants.Plant.{Plant}
+use Rattle.irt_world.specs.declared.rows.World.{World}
+use Rattle.iso_app.specs.Kinds.{reply_of}
+use Rattle.iso_app.specs.declared.kinds.AppKind.{AppKind}
+use Rattle.iso_rules.specs.Lockstep.{RunRecord, IsLockstepRecord}
+use Rattle.irt_world.specs.Rows.{world_rows}
+use Rattle.parcel_rules.specs.Rows.{parcel_rows}
+use Rattle.plan_rules.specs.Plan.{setup_of}
+use Rattle.plan_rules.specs.Way.{Setup}
+use Rattle.plan_rules.specs.World.{WorldRow}
+use Rattle.plan_run.specs.Run.{IsRunText, kinds_of, next_kind}
+use Rattle.record_text.specs.Text.{record_text, run_of}
+
+-- a lockstep run has one record
+abbrev pub OneRecord : Type 0
+OneRecord = (setup : Setup) (world : List WorldRow) (states : List AppKind) (parcels : ℕ → List JournalRow) (r s : RunRecord JournalRow) →
+    IsLockstepRecord reply_of next_kind setup world states (IsJournal setup world parcels (length world)) r →
+    IsLockstepRecord reply_of next_kind setup world states (IsJournal setup world parcels (length world)) s → r ≡ s
+
+pub one_text : OneRecord → (plant : Plant) (bundles : List Bundle) (walks : List (List PortNo)) (world : World) (text other : List ℕ) →
+    IsRunText plant bundles walks world text → IsRunText plant bundles walks world other → text ≡ other
+one_text law plant bundles walks world text other a b =
+    let rows = world_rows plant bundles world in
+    let runs : run_of a.log ≡ run_of b.log =
+    law (setup_of plant bundles) rows (kinds_of plant) (parcel_rows plant bundles walks rows) (run_of a.log) (run_of b.log) a.is_record.lockstep b.is_record.lockstep in
+    a.says
+    ∙ ap (λ n. record_text plant n (run_of a.log)) (a.is_record.cycles ∙ sym b.is_record.cycles)
+    ∙ ap (record_text plant b.log.cycles) runs
+    ∙ sym b.says

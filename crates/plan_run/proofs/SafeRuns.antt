@@ -1,0 +1,85 @@
+-- The record of a run of accepted blocks is safe.
+use Rattle.std.proofs.Common.{◌≡◌, ℕ, ◌+◌, ◌≤◌, List, map, length, Some, slice_get, refl, sym, ◌∙◌, ap, subst, arith}
+use Rattle.std.specs.Prelude.{All}
+use Rattle.std.proofs.lemmas.List.{length-map}
+use Rattle.std.proofs.lemmas.Option.{same_Some}
+use Rattle.cycle_rows.specs.Journal.{IsJournal}
+use Rattle.cycle_rows.specs.Safe.{IsSafeJournal, SendsOnce, DeliversOnce, DropsOnce}
+use Rattle.cycle_rows.specs.declared.rows.JournalRow.{JournalRow}
+use Rattle.io_buffers.specs.Given.{Given}
+use Rattle.io_buffers.specs.declared.taken.Taken.{Taken}
+use Rattle.irt_base.specs.declared.blocks.Bundle.{Bundle}
+use Rattle.irt_base.specs.declared.numbers.PortNo.{PortNo}
+use Rattle.irt_base.specs.declared.plants.App.{App}
+use Rattle.irt_base.specs.declared.plants.Plant.{Plant}
+use Rattle.irt_world.specs.Rows.{world_row, world_rows}
+use Rattle.irt_world.specs.declared.rows.World.{World}
+use Rattle.iso_app.specs.Kinds.{kind_of, reply_of}
+use Rattle.iso_app.specs.declared.kinds.AppKind.{AppKind}
+use Rattle.iso_run.specs.Run.{IsRunJournal}
+use Rattle.iso_rules.specs.Legal.{IsLegal}
+use Rattle.iso_rules.specs.Lockstep.{AppLog, log_of, RunRecord, IsLockstepRecord}
+use Rattle.iso_rules.specs.declared.turn.Turn.{Turn}
+use Rattle.iso_rules.proofs.PlayedRuns.{runs_at, map_at}
+use Rattle.parcel_rules.specs.Rows.{parcel_rows}
+use Rattle.plan_rules.specs.Plan.{IsPlan, setup_of}
+use Rattle.plan_rules.specs.Places.{IsAccepted}
+use Rattle.plan_rules.specs.Way.{Setup, IsInRange}
+use Rattle.plan_rules.specs.World.{WorldRow}
+use Rattle.plan_run.specs.Run.{IsRecordOf, kinds_of, next_kind}
+use Rattle.plan_run.specs.Safe.{HasWholeTakes, HaveWholeTakes, IsSafeRun}
+use Rattle.record_text.specs.Text.{run_of}
+use Rattle.record_text.specs.declared.record.Record.{Record}
+
+-- the journal of accepted blocks is safe, and a lockstep run of one cycle or more is legal
+pub record RunLaws : Type 0 where
+  pub journal : (plant : Plant) (bundles : List Bundle) → IsPlan plant bundles → IsAccepted plant bundles → (walks : List (List PortNo)) (world : List WorldRow) →
+      All (IsInRange (setup_of plant bundles)) world → (cycles : ℕ) (rows : List JournalRow) →
+      IsJournal (setup_of plant bundles) world (parcel_rows plant bundles walks world) cycles rows → IsSafeJournal (setup_of plant bundles) world cycles rows
+  pub legal : (setup : Setup) (world : List WorldRow) (states : List AppKind) (parcels : ℕ → List JournalRow) (r : RunRecord JournalRow) → 1 ≤ length world →
+      length states ≡ length setup.plant.apps →
+      IsLockstepRecord reply_of next_kind setup world states (IsJournal setup world parcels (length world)) r →
+      IsLegal reply_of next_kind setup world states (IsJournal setup world parcels (length world)) r
+
+module _ (laws : RunLaws) (plant : Plant) (bundles : List Bundle) (walks : List (List PortNo)) (world : World) (r : Record) where
+  abbrev setup : Setup
+  setup = setup_of plant bundles
+
+  abbrev rows : List WorldRow
+  rows = world_rows plant bundles world
+
+  takes_of : 1 ≤ length world.rows → IsRecordOf plant bundles walks world r → HaveWholeTakes setup rows r.apps
+  takes_of some is n app log own there =
+      let lockstep = is.lockstep in
+      let counted : length rows ≡ length world.rows = length-map world.rows (world_row plant bundles) in
+      let states = length-map plant.apps kind_of in
+      let legal = laws.legal setup rows (kinds_of plant) (parcel_rows plant bundles walks rows) (run_of r) (omega (arith, counted, some)) states lockstep in
+      let state : slice_get (kinds_of plant) n ≡ Some (kind_of app) = map_at kind_of plant.apps n app own in
+      let (run, stands, of) = runs_at reply_of next_kind setup rows (kinds_of plant) (length rows) lockstep.runs lockstep.played n app (kind_of app) own state in
+      let logged : log_of run ≡ log =
+      same_Some (log_of run) log (sym (map_at log_of lockstep.runs n run stands) ∙ ap (λ (ls : List AppLog). slice_get ls n) (sym lockstep.apps) ∙ there) in
+      let one = legal.apps n app (kind_of app) log own state there in
+      record {
+        outputs = one.outputs;
+        images = one.images;
+        inputs = one.inputs;
+        output_numbers = λ k g at. ap (λ (t : Taken). t.number) (of.played.each_take k g (ap (λ (l : AppLog). slice_get l.takes k) logged ∙ at)).taken;
+        input_numbers = λ k t at. ap (λ (x : Taken). x.number) (of.played.each_turn k t (ap (λ (l : AppLog). slice_get l.turns k) logged ∙ at)).taken;
+        rising = one.numbers;
+      }
+
+  pub safe_run : IsPlan plant bundles → IsAccepted plant bundles → All (IsInRange setup) rows → 1 ≤ length world.rows → IsRecordOf plant bundles walks world r →
+      IsSafeRun plant bundles walks world r
+  safe_run plan accepted ranges some is =
+      let journal = is.lockstep.journal in
+      let counted : length rows ≡ r.cycles = length-map world.rows (world_row plant bundles) ∙ sym is.cycles in
+      let safe : IsSafeJournal setup rows r.cycles r.journal =
+      subst (λ n. IsSafeJournal setup rows n r.journal) counted (laws.journal plant bundles plan accepted walks rows ranges (length rows) r.journal journal) in
+      record {
+        rows = journal;
+        apart = safe.apart;
+        sends = safe.sends;
+        delivers = safe.delivers;
+        drops = safe.drops;
+        takes = takes_of some is;
+      }
