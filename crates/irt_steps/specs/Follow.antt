@@ -22,6 +22,8 @@ status_of causes.NoWalk = 6
 status_of causes.Malformed = 7
 status_of causes.Reject = 8
 status_of causes.Overrun = 9
+status_of causes.World = 10
+status_of causes.LongRun = 11
 
 -- A function ended, by what it returned seen by view, as the steps say.
 abbrev pub Follows : {A B : Type 0} → (A → B) → Steps B → Option Files → Option Files → Result A Stop → Type 0

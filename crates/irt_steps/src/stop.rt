@@ -22,6 +22,10 @@ pub enum Cause {
     Reject,
     /// No plan has room for a frame.
     Overrun,
+    /// A world file is wrong.
+    World,
+    /// A run is too long.
+    LongRun,
 }
 
 impl Cause {
@@ -41,6 +45,8 @@ impl Cause {
             Cause::Malformed => 7,
             Cause::Reject => 8,
             Cause::Overrun => 9,
+            Cause::World => 10,
+            Cause::LongRun => 11,
         }
     }
 }

@@ -6,5 +6,7 @@ pub mod DeviceFiles
 pub mod Lines
 pub mod Plan
 pub mod PlantFile
+pub mod Run
 pub mod Show
 pub mod Sync
+pub mod World

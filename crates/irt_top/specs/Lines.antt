@@ -58,3 +58,10 @@ overrun_line frame = codes "overrun " ++ frame_text frame ++ 10 ∷ []
 abbrev pub reject_line : ℕ → List ℕ → ℕ → ℕ → ℕ → List ℕ
 reject_line rule device port frame other =
     codes "REJECT V" ++ decimal rule ++ 32 ∷ [] ++ device ++ 32 ∷ [] ++ decimal port ++ 32 ∷ [] ++ frame_text frame ++ 32 ∷ [] ++ frame_text other ++ 10 ∷ []
+
+-- the first line and place at which a world file is wrong: `world 2 2`
+abbrev pub world_line : ℕ → ℕ → List ℕ
+world_line line place = codes "world " ++ decimal line ++ 32 ∷ [] ++ decimal place ++ 10 ∷ []
+
+abbrev pub long_run_line : List ℕ
+long_run_line = codes "run too long\n"

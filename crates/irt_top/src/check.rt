@@ -47,7 +47,7 @@ fn check_blocks<S: Shelf>(alloc: Global, shelf: &mut S, plant: &Plant) -> Result
 }
 
 /// The bundles of devices, in their order, behind those of the first devices that are there.
-fn load_bundles<S: Shelf>(
+pub fn load_bundles<S: Shelf>(
     alloc: Global,
     shelf: &mut S,
     devices: &[Device],
@@ -106,7 +106,7 @@ fn verdict(alloc: Global, plant: &Plant, bundles: &[Bundle]) -> Result<Vec<u8>, 
 }
 
 /// What a rule that fails ends the command with.
-fn rejected(alloc: Global, plant: &Plant, reject: Reject) -> Stop
+pub fn rejected(alloc: Global, plant: &Plant, reject: Reject) -> Stop
     ensures calm { IsNoFault result }
     ensures ending { IsEnding result 8 (rejected plant.now reject).text }
 {

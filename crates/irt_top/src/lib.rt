@@ -5,6 +5,8 @@ mod check;
 mod files;
 mod line;
 mod plan;
+mod run;
 mod show;
 mod sync;
 pub mod top;
+mod world;

@@ -1,7 +1,7 @@
 //! The lines that the commands print.
 
 ghost use Rattle.std.specs.Prelude.{◌≡◌, IfOk};
-ghost use Rattle.irt_top.specs.Lines.{usage_line, not_toml_line, rule_line, kind_text, malformed_line, accept_line, reject_line, unreachable_line, no_path_line, no_clock_line, overrun_line};
+ghost use Rattle.irt_top.specs.Lines.{usage_line, not_toml_line, rule_line, kind_text, malformed_line, accept_line, reject_line, unreachable_line, no_path_line, no_clock_line, overrun_line, world_line, long_run_line};
 
 use irt_base::memory::NoMemory;
 use irt_base::numbers::FrameId;
@@ -127,4 +127,19 @@ pub fn reject_line(alloc: Global, device: &[u8], reject: Reject) -> Result<Vec<u
     line.extend_from_slice(&other)?;
     line.extend_from_slice(b"\n")?;
     Ok(line)
+}
+
+/// The first line and place at which a world file is wrong.
+pub fn world_line(alloc: Global, number: u32, place: u32) -> Result<Vec<u8>, NoMemory>
+    ensures { IfOk result (λ v. v.items ≡ world_line number place) }
+{
+    let line = format!(in alloc; "world {number} {place}\n")?;
+    Ok(line.into_bytes())
+}
+
+/// A run that is too long.
+pub fn long_run_line(alloc: Global) -> Result<Vec<u8>, NoMemory>
+    ensures { IfOk result (λ v. v.items ≡ long_run_line) }
+{
+    Ok(Vec::from_slice(alloc, b"run too long\n")?)
 }

@@ -5,6 +5,7 @@ use Rattle.irt_base.specs.declared.plants.Clocks.{Clocks}
 use Rattle.irt_base.specs.declared.plants.Clocks.TheVariants as clocks
 use Rattle.irt_base.specs.declared.plants.Plant.{Plant}
 use Rattle.irt_route.specs.Clocks.{ClockTable, IsClockTreeOf}
+use Rattle.irt_world.specs.Rows.{Fits}
 use Rattle.irt_world.specs.Seeded.{seeded_rows}
 use Rattle.irt_world.specs.declared.rows.World.{World}
 use Rattle.sync_world.specs.World.{ptcp_rows}
@@ -22,10 +23,11 @@ pub record IsPtcpWorld (plant : Plant) (bundles : List Bundle) (seed cycles : �
   pub is_first : slice_get bundles 0 ≡ Some first
   pub rows : world.rows ≡ ptcp_rows seed plant bundles tree first.sync.send (timeouts_of bundles) cycles
 
-abbrev pub IsWorldBy : Clocks → Plant → List Bundle → ℕ → ℕ → World → Type 0
-IsWorldBy clocks.World plant bundles seed cycles world = world.rows ≡ seeded_rows seed plant bundles cycles
-IsWorldBy clocks.Ptcp plant bundles seed cycles world = IsPtcpWorld plant bundles seed cycles world
+abbrev pub AreRowsBy : Clocks → Plant → List Bundle → ℕ → ℕ → World → Type 0
+AreRowsBy clocks.World plant bundles seed cycles world = world.rows ≡ seeded_rows seed plant bundles cycles
+AreRowsBy clocks.Ptcp plant bundles seed cycles world = IsPtcpWorld plant bundles seed cycles world
 
--- It has so many cycles, and is as the plant's clocks say.
-abbrev pub IsSeedWorld : Plant → List Bundle → ℕ → ℕ → World → Type 0
-IsSeedWorld plant bundles seed cycles world = IsWorldBy plant.clocks plant bundles seed cycles world
+-- It has so many cycles, is as the plant's clocks say, and all its rows are in range.
+pub record IsSeedWorld (plant : Plant) (bundles : List Bundle) (seed cycles : ℕ) (world : World) : Type 0 where
+  pub rows : AreRowsBy plant.clocks plant bundles seed cycles world
+  pub fits : Fits plant bundles world

@@ -41,10 +41,12 @@ pub fn run_texts_are_one()
     lockstep_runs_are_one::<AppKind>();
 }
 
-/// A seed has one world, and a plant's traffic one list of walks.
+/// A seed has one world, with as many cycles as were asked for, and a plant's traffic one list of walks.
 pub fn worlds_and_walks_are_one()
     ensures worlds { (plant : Plant) (bundles : List Bundle) (seed cycles : ℕ) (world other : World) →
         IsSeedWorld plant bundles seed cycles world → IsSeedWorld plant bundles seed cycles other → world ≡ other }
+    ensures cycles { (plant : Plant) (bundles : List Bundle) (seed cycles : ℕ) (world : World) →
+        IsSeedWorld plant bundles seed cycles world → length world.rows ≡ cycles }
     ensures walks { (plant : Plant) (walks others : List (List PortNo)) →
         AreTrafficWalks (peer_of plant) plant.traffic walks → AreTrafficWalks (peer_of plant) plant.traffic others →
         walks ≡ others }

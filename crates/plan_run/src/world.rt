@@ -36,8 +36,7 @@ pub fn seed_world(
     seed: u64,
 ) -> Result<World, NoMemory>
     requires { cycles ≤ MAX_CYCLES }
-    ensures world { IfOk result (IsSeedWorld accepted.now.plant accepted.now.bundles seed cycles) }
-    ensures fits { IfOk result (Fits accepted.now.plant accepted.now.bundles) }
+    ensures { IfOk result (IsSeedWorld accepted.now.plant accepted.now.bundles seed cycles) }
 {
     accepted.facts();
     match accepted.plant().clocks {
