@@ -2,6 +2,7 @@
 use Rattle.std.proofs.Common.{◌≡◌, ◌≢◌, ◌⊎◌, inl, inr, ℕ, suc, List, [], ◌∷◌, length, Option, Some, None, Result, Ok, Err, refl, sym, ◌∙◌, ap, subst, arith}
 use Rattle.std.specs.List.{All, AllByRecursion}
 use Rattle.std.proofs.lemmas.List.Elements.{All-cons, All-nil}
+use Rattle.std.proofs.lemmas.Option.{none-some}
 use Rattle.irt_base.specs.Valid.{IsBundle}
 use Rattle.irt_base.specs.declared.blocks.Bundle.{Bundle}
 use Rattle.irt_base.specs.declared.plants.Device.{Device}
@@ -25,12 +26,14 @@ use Rattle.irt_top.specs.Check.{ArePlanFiles, IsAcceptedPlan, IsSafePlan}
 use Rattle.irt_top.specs.Commands.{asked_steps, steps_of, StoresFiles, IsNothing, IsUsage}
 use Rattle.irt_top.specs.DeviceFiles.{AreBundleFiles}
 use Rattle.irt_top.specs.Lines.{usage_line}
+use Rattle.irt_top.specs.Run.{run_asked}
 use Rattle.irt_top.specs.Plan.{plan_steps, IsStoredPlan, IsPlanInOrder}
 use Rattle.irt_top.proofs.CauseLemmas.{outcome_cause}
 use Rattle.irt_top.proofs.OneLemmas.{asked_one}
 use Rattle.irt_top.proofs.OutcomeLemmas.{cause_outcome, nothing_steps}
 use Rattle.irt_top.proofs.PlanLemmas.{PlanCame, stopped, refused, overran, stored, plan_by, refused_kept, stored_files, stops_status}
 use Rattle.irt_top.proofs.PlanOne.{TreeLaws, FitLaws, TextLaw}
+use Rattle.irt_top.proofs.RunOne.{RunLaws}
 use Rattle.irt_top.proofs.SyncLemmas.{ReportLaw}
 use Rattle.irt_top.proofs.StoreOrder.{ValidLaw, comes_order, fails_order, halts_order}
 
@@ -59,6 +62,10 @@ cause_status files words _ (causes.plans name plant bundles text is file are so)
 cause_status files words _ (causes.accepts name is file) = calls.done
 cause_status files words _ (causes.shows name bundle is file) = calls.done
 cause_status files words _ (causes.reports name cycles seed plant text is file holds) = calls.done
+cause_status files words _ (causes.no_path asked p bundles traffic is plan holds) = calls.no_walk
+cause_status files words _ (causes.wrong_world asked p bundles walks name line place is named plan held) = calls.world
+cause_status files words _ (causes.long_run asked p bundles walks is plan over) = calls.long_run
+cause_status files words _ (causes.runs asked p bundles walks world text is of says) = calls.done
 
 pub has_status : (c : Call) (status : ℕ) → TellsCause c status → IsStatus status
 has_status c status (inl faulty) = calls.faulty faulty
@@ -73,13 +80,13 @@ its_or_faulty : (status its : ℕ) → (status ≡ its) ⊎ (status ≡ 2) ⊎ (
 its_or_faulty status its (inl is) = inl is
 its_or_faulty status its (inr faults) = inr (faults_of status faults)
 
-pub has_every_cause : TreeLaws → FitLaws → TextLaw → ReportLaw → (c : Call) (status : ℕ) → FollowsSteps c status → HasEveryCause c status
-has_every_cause trees fits texts reports c status follows files e told cause =
+pub has_every_cause : TreeLaws → FitLaws → TextLaw → ReportLaw → RunLaws → (c : Call) (status : ℕ) → FollowsSteps c status → HasEveryCause c status
+has_every_cause trees fits texts reports runs c status follows files e told cause =
     let over : EndsAs (steps_of c.words) c.shelf c.sink (Some files) c.files_after c.taken c.taken_after status =
     subst (λ f. EndsAs (steps_of c.words) c.shelf c.sink f c.files_after c.taken c.taken_after status) told follows in
     let (end, is) = cause_outcome (Some files) c.words e cause in
     its_or_faulty status e.status
-    (exact_of (steps_of c.words) c.shelf c.sink files c.files_after c.taken c.taken_after status over (asked_one trees fits texts reports (asked_of c.words)) e end is)
+    (exact_of (steps_of c.words) c.shelf c.sink files c.files_after c.taken c.taken_after status over (asked_one trees fits texts reports runs (asked_of c.words)) e end is)
 
 -- ---- a plan that is accepted
 
@@ -87,7 +94,7 @@ has_every_cause trees fits texts reports c status follows files e told cause =
 abbrev pub Law : Type 0
 Law = (plant : Plant) (bundles : List Bundle) → IsPlan plant bundles → IsAccepted plant bundles → IsSafe plant bundles
 
-valid_files : (files : Option Files) (devices : List Device) (bundles : List Bundle) → AreBundleFiles files devices bundles → All IsBundle bundles × (length bundles ≡ length devices)
+pub valid_files : (files : Option Files) (devices : List Device) (bundles : List Bundle) → AreBundleFiles files devices bundles → All IsBundle bundles × (length bundles ≡ length devices)
 valid_files files [] [] are = (All-nil IsBundle, refl)
 valid_files files [] (b ∷ bs) are = absurd are
 valid_files files (d ∷ ds) [] are = absurd are
@@ -95,7 +102,7 @@ valid_files files (d ∷ ds) (b ∷ bs) are =
     let more = valid_files files ds bs are.1 in
     (All-cons IsBundle b bs are.0.valid more.0, ap suc more.1)
 
-plan_files : (files : Option Files) (name : List ℕ) (plant : Plant) (bundles : List Bundle) → ArePlanFiles files name plant bundles → IsPlan plant bundles
+pub plan_files : (files : Option Files) (name : List ℕ) (plant : Plant) (bundles : List Bundle) → ArePlanFiles files name plant bundles → IsPlan plant bundles
 plan_files files name plant bundles are =
     let valid = valid_files files plant.devices bundles are.device_files in
     record { rules = are.plant_file.states.rules; blocks = valid.0; count = valid.1 }
@@ -137,8 +144,12 @@ cause_safe law files words _ name (causes.reports at cycles seed plant text is f
   where
     other : (a : List ℕ) (c s : ℕ) (b : List ℕ) → Some (sync a c s) ≡ some_check b → ⊥
     other a c s b same = absurd cc
+cause_safe law files words _ name (causes.no_path asked_run p bundles traffic is plan holds) zero asked = absurd cc
+cause_safe law files words _ name (causes.wrong_world asked_run p bundles walks at line place is named plan held) zero asked = absurd cc
+cause_safe law files words _ name (causes.long_run asked_run p bundles walks is plan over) zero asked = absurd cc
+cause_safe law files words _ name (causes.runs asked_run p bundles walks world text is of says) zero asked = absurd (none-some asked_run (sym (ap run_asked asked) ∙ is))
 
-not_faulty : (n : ℕ) → IsFaulty n → (n ≡ 0) ⊎ (n ≡ 1) → ⊥
+pub not_faulty : (n : ℕ) → IsFaulty n → (n ≡ 0) ⊎ (n ≡ 1) → ⊥
 not_faulty _ calls.shelf_fault (inl is) = absurd cc
 not_faulty _ calls.shelf_fault (inr is) = absurd cc
 not_faulty _ calls.sink_fault (inl is) = absurd cc
@@ -264,6 +275,10 @@ cause_usage files words _ (causes.rejects name plant reject is file) one = absur
 cause_usage files words _ (causes.accepts name is file) one = absurd cc
 cause_usage files words _ (causes.shows name bundle is file) one = absurd cc
 cause_usage files words _ (causes.reports name cycles seed plant text is file holds) one = absurd cc
+cause_usage files words _ (causes.no_path asked p bundles traffic is plan holds) one = absurd cc
+cause_usage files words _ (causes.wrong_world asked p bundles walks name line place is named plan held) one = absurd cc
+cause_usage files words _ (causes.long_run asked p bundles walks is plan over) one = absurd cc
+cause_usage files words _ (causes.runs asked p bundles walks world text is of says) one = absurd cc
 
 usage_of : (c : Call) (status : ℕ) → TellsCause c status → status ≡ 1 → IsUsage c.words
 usage_of c status (inl faulty) one = absurd (not_faulty status faulty (inr one))
@@ -299,6 +314,10 @@ cause_plain files words _ (causes.rejects name plant reject is file) = ((λ so. 
 cause_plain files words _ (causes.accepts name is file) = ((λ so. absurd cc), λ so. absurd cc)
 cause_plain files words _ (causes.shows name bundle is file) = ((λ so. absurd cc), λ so. absurd cc)
 cause_plain files words _ (causes.reports name cycles seed plant text is file holds) = ((λ so. absurd cc), λ so. absurd cc)
+cause_plain files words _ (causes.no_path asked p bundles traffic is plan holds) = ((λ so. absurd cc), λ so. absurd cc)
+cause_plain files words _ (causes.wrong_world asked p bundles walks name line place is named plan held) = ((λ so. absurd cc), λ so. absurd cc)
+cause_plain files words _ (causes.long_run asked p bundles walks is plan over) = ((λ so. absurd cc), λ so. absurd cc)
+cause_plain files words _ (causes.runs asked p bundles walks world text is of says) = ((λ so. absurd cc), λ so. absurd cc)
 
 pub tells_faults : (c : Call) (status : ℕ) → FollowsSteps c status → TellsFaults c status
 tells_faults c status follows = (shelf c status follows, sink c status follows)

@@ -1,6 +1,6 @@
 -- From where steps came to the cause of it.
 use Rattle.std.proofs.Common.{◌≡◌, inl, inr, ℕ, List, [], Option, Some, None, Result, Ok, refl, sym, ap, subst}
-use Rattle.irt_base.specs.declared.limits.TheConstants.{PLANT_FILE, DEVICE_FILE}
+use Rattle.irt_base.specs.declared.limits.TheConstants.{PLANT_FILE, DEVICE_FILE, WORLD_FILE}
 use Rattle.irt_base.specs.declared.blocks.Bundle.{Bundle}
 use Rattle.irt_base.specs.declared.plants.Plant.{Plant}
 use Rattle.irt_io.specs.Files.{Files}
@@ -13,12 +13,16 @@ use Rattle.irt_words.specs.Commands.{Command, plan, check, show, sync, run, run_
 use Rattle.irt_top.specs.Cause as causes
 use Rattle.irt_top.specs.Cause.{IsCauseOf}
 use Rattle.irt_top.specs.Check.{verdict_steps, blocks_steps, check_steps, ArePlanFiles}
-use Rattle.irt_top.specs.Commands.{asked_steps, plant_asked, steps_of, IsNothing}
+use Rattle.irt_top.specs.Commands.{asked_steps, checked_asked, plant_asked, steps_of, IsNothing}
 use Rattle.irt_top.specs.DeviceFiles.{bundle_steps, bundles_steps, AreBundleFiles}
 use Rattle.irt_top.specs.PlantFile.{plant_steps}
+use Rattle.irt_top.specs.Run.{RunAsked, run_asked, run_steps}
 use Rattle.irt_top.specs.Show.{show_steps}
+use Rattle.irt_top.specs.World.{by_seed, by_file}
 use Rattle.irt_top.proofs.FileLemmas.{PlantStops, StopsAt, plant_file, plant_stops, bundle_file, bundle_stops, bundle_next, bundles_ok, bundles_stop}
 use Rattle.irt_top.proofs.PlanLemmas.{PlanCame, stopped, refused, overran, stored, plan_by}
+use Rattle.irt_top.proofs.RunCame as came
+use Rattle.irt_top.proofs.RunCame.{RunCame, run_by}
 use Rattle.irt_top.proofs.SyncLemmas as syncs
 use Rattle.irt_top.proofs.SyncLemmas.{SyncCame, sync_by}
 
@@ -48,7 +52,7 @@ verdict_cause : (files : Option Files) (words : List (List ℕ)) (name : List �
 verdict_cause files words name p bundles old new result is are (None, holds, (so, kept)) =
     subst (IsCauseOf files words) (ap ended (sym so)) (causes.accepts name is (record { plant = p; bundles = bundles; are = are; accepted = holds }))
 verdict_cause files words name p bundles old new result is are (Some r, holds, (so, kept)) =
-    subst (IsCauseOf files words) (ap ended (sym so)) (causes.rejects name p r is (record { bundles = bundles; are = are; rejects = holds }))
+    subst (IsCauseOf files words) (ap ended (sym so)) (causes.rejects name p r (ap checked_asked is) (record { bundles = bundles; are = are; rejects = holds }))
 
 check_cause : (files new : Option Files) (words : List (List ℕ)) (name : List ℕ) (result : Answer) → asked_of words ≡ Some (check name) → Comes (check_steps name) files new result →
     IsCauseOf files words (ended result)
@@ -107,6 +111,36 @@ show_cause files new words name result is comes = elim (comes_by (bundle_steps n
       subst (IsCauseOf files words) (ap ended (sym so)) (causes.shows name b is (bundle_file files mid name b first).1)
 ]
 
+-- ---- run
+
+run_came_cause : (files : Option Files) (words : List (List ℕ)) (asked : RunAsked) (result : Answer) → run_asked (asked_of words) ≡ Some asked → plant_asked (asked_of words) ≡ Some asked.plant →
+    checked_asked (asked_of words) ≡ Some asked.plant → steps_of words ≡ run_steps asked.plant asked.cycles asked.world → RunCame files asked result → IsCauseOf files words (ended result)
+run_came_cause files words asked _ is plant checked steps (came.plant_stopped e stops) =
+    plant_stops_at files words asked.plant e plant (subst (λ s. LoadsNext s files asked.plant PLANT_FILE files) (sym steps) (inl (refl, refl, refl))) stops
+run_came_cause files words asked _ is plant checked steps (came.device_stopped at e next stops) =
+    stops_at files words at e (subst (λ s. LoadsNext s files at DEVICE_FILE files) (sym steps) next) stops
+run_came_cause files words asked _ is plant checked steps (came.refused p bundles r are rejects) =
+    causes.rejects asked.plant p r checked (record { bundles = bundles; are = are; rejects = rejects })
+run_came_cause files words asked _ is plant checked steps (came.cut p bundles traffic plan holds) = causes.no_path asked p bundles traffic is plan holds
+run_came_cause files words asked _ is plant checked steps (came.long p bundles walks plan over) = causes.long_run asked p bundles walks is plan over
+run_came_cause files words asked _ is plant checked steps (came.world_stopped at e next why) =
+    unloaded_cause files words at WORLD_FILE e (subst (λ s. LoadsNext s files at WORLD_FILE files) (sym steps) next) why
+run_came_cause files words asked _ is plant checked steps (came.wrong_world p bundles walks at line place named plan held) =
+    causes.wrong_world asked p bundles walks at line place is named plan held
+run_came_cause files words asked _ is plant checked steps (came.made p bundles walks world text of says) = causes.runs asked p bundles walks world text is of says
+
+run_cause : (files new : Option Files) (words : List (List ℕ)) (name : List ℕ) (cycles seed : ℕ) (result : Answer) → asked_of words ≡ Some (run name cycles seed) →
+    Comes (run_steps name cycles (by_seed seed)) files new result → IsCauseOf files words (ended result)
+run_cause files new words name cycles seed result is comes =
+    let asked : RunAsked = record { plant = name; cycles = cycles; world = by_seed seed } in
+    run_came_cause files words asked result (ap run_asked is) (ap plant_asked is) (ap checked_asked is) (λ i. asked_steps (is i)) (run_by files new asked result comes)
+
+run_world_cause : (files new : Option Files) (words : List (List ℕ)) (name : List ℕ) (cycles : ℕ) (world : List ℕ) (result : Answer) → asked_of words ≡ Some (run_world name cycles world) →
+    Comes (run_steps name cycles (by_file world)) files new result → IsCauseOf files words (ended result)
+run_world_cause files new words name cycles world result is comes =
+    let asked : RunAsked = record { plant = name; cycles = cycles; world = by_file world } in
+    run_came_cause files words asked result (ap run_asked is) (ap plant_asked is) (ap checked_asked is) (λ i. asked_steps (is i)) (run_by files new asked result comes)
+
 -- ---- all words
 
 nothing_cause : (files new : Option Files) (words : List (List ℕ)) (asked : Option Command) (result : Answer) → asked_of words ≡ asked → IsNothing asked →
@@ -122,8 +156,8 @@ asked_cause files new words (Some (plan name)) result is comes = plan_came_cause
 asked_cause files new words (Some (show name)) result is comes = show_cause files new words name result is comes
 asked_cause files new words None result is comes = nothing_cause files new words None result is tt refl comes
 asked_cause files new words (Some (sync p c s)) result is comes = sync_came_cause files words p c s result is (sync_by files new p c s result comes)
-asked_cause files new words (Some (run p c s)) result is comes = nothing_cause files new words (Some (run p c s)) result is (λ built. built) refl comes
-asked_cause files new words (Some (run_world p c w)) result is comes = nothing_cause files new words (Some (run_world p c w)) result is (λ built. built) refl comes
+asked_cause files new words (Some (run p c s)) result is comes = run_cause files new words p c s result is comes
+asked_cause files new words (Some (run_world p c w)) result is comes = run_world_cause files new words p c w result is comes
 asked_cause files new words (Some (gen s d f n)) result is comes = nothing_cause files new words (Some (gen s d f n)) result is (λ built. built) refl comes
 asked_cause files new words (Some (free p c s)) result is comes = nothing_cause files new words (Some (free p c s)) result is (λ built. built) refl comes
 

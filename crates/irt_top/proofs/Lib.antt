@@ -1,6 +1,7 @@
 mod CallLemmas
 mod CauseLemmas
 mod CheckLemmas
+mod CheckOne
 mod CycleLemmas
 mod FileLemmas
 mod NameLemmas
@@ -9,6 +10,11 @@ mod OutcomeLemmas
 mod PlanLemmas
 mod PlanOne
 mod PlanSteps
+mod RunCame
+mod RunComes
+mod RunLemmas
+mod RunOne
+mod RunSafe
 mod SpellingLemmas
 mod StoreOrder
 mod SyncLemmas

@@ -20,13 +20,16 @@ use Rattle.plan_check.specs.Verdicts.{IsJudged}
 use Rattle.plan_rules.specs.declared.place.Reject.{Reject}
 use Rattle.irt_top.specs.Cause as causes
 use Rattle.irt_top.specs.Cause.{IsCauseOf}
-use Rattle.irt_top.specs.Check.{verdict_answer, verdict_steps, blocks_steps, check_steps, ArePlanFiles}
-use Rattle.irt_top.specs.Commands.{asked_steps, plant_asked, steps_of, IsNothing}
+use Rattle.irt_top.specs.Check.{rejected, verdict_answer, verdict_steps, blocks_steps, check_steps, ArePlanFiles, IsRejectedPlan}
+use Rattle.irt_top.specs.Commands.{asked_steps, checked_asked, plant_asked, steps_of, IsNothing}
 use Rattle.irt_top.specs.DeviceFiles.{bundle_steps, device_file_of, device_steps, bundles_steps, store_steps, IsMalformed}
-use Rattle.irt_top.specs.Lines.{usage_line, refusal_line, malformed_line, no_clock_line, overrun_line}
+use Rattle.irt_top.specs.Lines.{usage_line, refusal_line, malformed_line, no_clock_line, no_path_line, overrun_line, world_line, long_run_line}
 use Rattle.irt_top.specs.Plan.{no_walk_line, ArePlanned, Planning, no_walk, overruns, planned, IsPlanning, planning_answer, planning_steps, text_steps, stored_steps, planned_steps, plan_steps}
 use Rattle.irt_top.specs.PlantFile.{plant_answer, plant_steps, name_of, IsPlantFile, IsRefusedFile}
+use Rattle.irt_top.specs.Run.{RunAsked, run_asked, run_plan_steps, run_plant_steps, run_steps}
 use Rattle.irt_top.specs.Sync.{report_steps}
+use Rattle.irt_top.specs.World.{WorldSource, by_seed, by_file}
+use Rattle.irt_top.proofs.RunComes.{run_asked_steps, rejected_comes, cut_comes as cut_comes_to, long_comes, wrong_comes, run_comes, plan_loads}
 use Rattle.irt_top.proofs.SyncLemmas.{cut_comes, made_comes, no_more}
 use Rattle.irt_top.proofs.PlanLemmas.{stores_come, stored_loads}
 use Rattle.irt_top.proofs.FileLemmas.{plant_comes, refusal_comes, bundle_comes, bundles_come, after_judged, malformed_first}
@@ -42,8 +45,8 @@ nothing_steps (Some (plan p)) none = absurd (none tt)
 nothing_steps (Some (check p)) none = absurd (none tt)
 nothing_steps (Some (show f)) none = absurd (none tt)
 nothing_steps (Some (sync p c s)) none = absurd (none tt)
-nothing_steps (Some (run p c s)) none = refl
-nothing_steps (Some (run_world p c w)) none = refl
+nothing_steps (Some (run p c s)) none = absurd (none tt)
+nothing_steps (Some (run_world p c w)) none = absurd (none tt)
 nothing_steps (Some (gen s d f n)) none = refl
 nothing_steps (Some (free p c s)) none = refl
 
@@ -56,18 +59,25 @@ no_load : (answer : Answer) (files now : Option Files) (name : List ℕ) → ¬ 
 no_load (Ok x) files now name next = next
 no_load (Err e) files now name next = next
 
-bundles_malformed : (plant : Plant) (devices : List Device) (front : List Bundle) (files now : Option Files) (name : List ℕ) (fault : BlockFault) →
-    LoadsNext (after (bundles_steps devices front) (verdict_steps plant)) files name DEVICE_FILE now → IsMalformed now name fault →
-    Comes (after (bundles_steps devices front) (verdict_steps plant)) files now (bad_end name fault)
-bundles_malformed plant [] front files now name fault (found, holds, next) bad = absurd (no_load (verdict_answer plant found) files now name next)
-bundles_malformed plant (d ∷ ds) front files now name fault next bad =
+-- steps on bundles that load no more device files
+abbrev LoadsNoMore : (List Bundle → Steps (List ℕ)) → Type 0
+LoadsNoMore f = (bundles : List Bundle) (files now : Option Files) (name : List ℕ) → ¬ LoadsNext (f bundles) files name DEVICE_FILE now
+
+verdict_loads : (plant : Plant) → LoadsNoMore (verdict_steps plant)
+verdict_loads plant bundles files now name (found, holds, next) = no_load (verdict_answer plant found) files now name next
+
+bundles_malformed : (f : List Bundle → Steps (List ℕ)) → LoadsNoMore f → (devices : List Device) (front : List Bundle) (files now : Option Files) (name : List ℕ) (fault : BlockFault) →
+    LoadsNext (after (bundles_steps devices front) f) files name DEVICE_FILE now → IsMalformed now name fault →
+    Comes (after (bundles_steps devices front) f) files now (bad_end name fault)
+bundles_malformed f none [] front files now name fault next bad = absurd (none front files now name next)
+bundles_malformed f none (d ∷ ds) front files now name fault next bad =
     let device : Bundle → Steps (List Bundle) = λ b. gives (front ++ b ∷ []) in
-    let rest : List Bundle → Steps (List ℕ) = λ bs. after (bundles_steps ds bs) (verdict_steps plant) in
+    let rest : List Bundle → Steps (List ℕ) = λ bs. after (bundles_steps ds bs) f in
     let later : Bundle → Steps (List ℕ) = λ b. after (device b) rest in
-    let outer = loads_in (device_steps d front) (bundles_steps ds) (verdict_steps plant) files now name DEVICE_FILE next in
+    let outer = loads_in (device_steps d front) (bundles_steps ds) f files now name DEVICE_FILE next in
     let inner = loads_in (bundle_steps (device_file_of d.name)) device rest files now name DEVICE_FILE outer in
-    let first = malformed_first (device_file_of d.name) later files now name fault inner bad (λ b more. bundles_malformed plant ds (front ++ b ∷ []) files now name fault more bad) in
-    comes_out (device_steps d front) (bundles_steps ds) (verdict_steps plant) files now (bad_end name fault)
+    let first = malformed_first (device_file_of d.name) later files now name fault inner bad (λ b more. bundles_malformed f none ds (front ++ b ∷ []) files now name fault more bad) in
+    comes_out (device_steps d front) (bundles_steps ds) f files now (bad_end name fault)
     (comes_out (bundle_steps (device_file_of d.name)) device rest files now (bad_end name fault) first)
 
 limits_differ : DEVICE_FILE ≡ PLANT_FILE → ⊥
@@ -79,6 +89,17 @@ planned_loads plant files now name (no_walk fault, holds, next) = next
 planned_loads plant files now name (overruns frame, holds, next) = next
 planned_loads plant files now name (planned bundles, holds, next) = stored_loads plant bundles bundles plant.devices files now name DEVICE_FILE next
 
+run_malformed : (p : List ℕ) (c : ℕ) (source : WorldSource) (files now : Option Files) (name : List ℕ) (fault : BlockFault) → LoadsNext (run_steps p c source) files name DEVICE_FILE now →
+    IsMalformed now name fault → Comes (run_steps p c source) files now (bad_end name fault)
+run_malformed p c source files now name fault (inl (same, limit, kept)) bad = absurd (limits_differ limit)
+run_malformed p c source files now name fault (inr (bytes, held, next)) bad =
+    inl (
+      bytes,
+      held,
+      after_judged (plant_answer (plant_of bytes)) (run_plant_steps c source) files now name DEVICE_FILE (ending 7 (malformed_line name fault)) next
+          (λ plant more. bundles_malformed (run_plan_steps c source plant) (plan_loads c source plant) plant.devices [] files now name fault more bad),
+    )
+
 asked_malformed : (asked : Option Command) (files now : Option Files) (name : List ℕ) (fault : BlockFault) → LoadsNext (asked_steps asked) files name DEVICE_FILE now → IsMalformed now name fault →
     Comes (asked_steps asked) files now (bad_end name fault)
 asked_malformed (Some (check p)) files now name fault (inl (same, limit, kept)) bad = absurd (limits_differ limit)
@@ -87,7 +108,7 @@ asked_malformed (Some (check p)) files now name fault (inr (bytes, held, next)) 
       bytes,
       held,
       after_judged (plant_answer (plant_of bytes)) blocks_steps files now name DEVICE_FILE (ending 7 (malformed_line name fault)) next
-          (λ plant more. bundles_malformed plant plant.devices [] files now name fault more bad),
+          (λ plant more. bundles_malformed (verdict_steps plant) (verdict_loads plant) plant.devices [] files now name fault more bad),
     )
 asked_malformed (Some (plan p)) files now name fault (inl (same, limit, kept)) bad = absurd (limits_differ limit)
 asked_malformed (Some (plan p)) files now name fault (inr (bytes, held, next)) bad =
@@ -107,8 +128,8 @@ asked_malformed (Some (sync p c s)) files now name fault (inr (bytes, held, next
       after_judged (plant_answer (plant_of bytes)) (report_steps c s) files now name DEVICE_FILE (ending 7 (malformed_line name fault)) next
           (λ plant more. absurd (no_more c s plant files now name DEVICE_FILE more)),
     )
-asked_malformed (Some (run p c s)) files now name fault next bad = absurd next
-asked_malformed (Some (run_world p c w)) files now name fault next bad = absurd next
+asked_malformed (Some (run p c s)) files now name fault next bad = run_malformed p c (by_seed s) files now name fault next bad
+asked_malformed (Some (run_world p c w)) files now name fault next bad = run_malformed p c (by_file w) files now name fault next bad
 asked_malformed (Some (gen s d f n)) files now name fault next bad = absurd next
 asked_malformed (Some (free p c s)) files now name fault next bad = absurd next
 
@@ -172,10 +193,35 @@ plant_comes_to files None name refusal is file = absurd (none-some name is)
 plant_comes_to files (Some (show f)) name refusal is file = absurd (none-some name is)
 plant_comes_to files (Some (sync p c s)) name refusal is file =
     comes_end (plant_steps p) (report_steps c s) files files (ending 5 (refusal_line refusal)) (refusal_comes files p refusal (subst (λ n. IsRefusedFile files n refusal) (sym (same_Some p name is)) file))
-plant_comes_to files (Some (run p c s)) name refusal is file = absurd (none-some name is)
-plant_comes_to files (Some (run_world p c w)) name refusal is file = absurd (none-some name is)
+plant_comes_to files (Some (run p c s)) name refusal is file =
+    comes_end (plant_steps p) (run_plant_steps c (by_seed s)) files files (ending 5 (refusal_line refusal)) (refusal_comes files p refusal (subst (λ n. IsRefusedFile files n refusal) (sym (same_Some p name is)) file))
+plant_comes_to files (Some (run_world p c w)) name refusal is file =
+    comes_end (plant_steps p) (run_plant_steps c (by_file w)) files files (ending 5 (refusal_line refusal)) (refusal_comes files p refusal (subst (λ n. IsRefusedFile files n refusal) (sym (same_Some p name is)) file))
 plant_comes_to files (Some (gen s d f n)) name refusal is file = absurd (none-some name is)
 plant_comes_to files (Some (free p c s)) name refusal is file = absurd (none-some name is)
+
+-- the blocks of a command that checks them are refused
+checked_comes_to : (files : Option Files) (asked : Option Command) (name : List ℕ) (p : Plant) (reject : Reject) → checked_asked asked ≡ Some name → IsRejectedPlan files name p reject →
+    Comes (asked_steps asked) files files (Err (rejected p reject))
+checked_comes_to files (Some (check n)) name p reject is file =
+    subst (λ m. Comes (check_steps m) files files (Err (rejected p reject))) (sym (same_Some n name is)) (check_comes files name p file.bundles (Some reject) file.are file.rejects)
+checked_comes_to files (Some (run n c s)) name p reject is file =
+    subst (λ m. Comes (run_steps m c (by_seed s)) files files (Err (rejected p reject))) (sym (same_Some n name is))
+    (rejected_comes files name c (by_seed s) p file.bundles reject file.are file.rejects)
+checked_comes_to files (Some (run_world n c w)) name p reject is file =
+    subst (λ m. Comes (run_steps m c (by_file w)) files files (Err (rejected p reject))) (sym (same_Some n name is))
+    (rejected_comes files name c (by_file w) p file.bundles reject file.are file.rejects)
+checked_comes_to files None name p reject is file = absurd (none-some name is)
+checked_comes_to files (Some (plan n)) name p reject is file = absurd (none-some name is)
+checked_comes_to files (Some (show f)) name p reject is file = absurd (none-some name is)
+checked_comes_to files (Some (sync n c s)) name p reject is file = absurd (none-some name is)
+checked_comes_to files (Some (gen s d f n)) name p reject is file = absurd (none-some name is)
+checked_comes_to files (Some (free n c s)) name p reject is file = absurd (none-some name is)
+
+run_outcome : (files : Option Files) (words : List (List ℕ)) (asked : RunAsked) (answer : Answer) → run_asked (asked_of words) ≡ Some asked →
+    Comes (run_steps asked.plant asked.cycles asked.world) files files answer → HasOutcome files words (ended answer)
+run_outcome files words asked answer is comes =
+    outcome files files words answer (subst (λ s. Comes s files files answer) (sym (run_asked_steps (asked_of words) asked is)) comes)
 
 pub cause_outcome : (files : Option Files) (words : List (List ℕ)) (e : Ending) → IsCauseOf files words e → HasOutcome files words e
 cause_outcome files words _ (causes.usage none) =
@@ -194,7 +240,7 @@ cause_outcome files words _ (causes.no_walk name p fault is file holds) =
 cause_outcome files words _ (causes.no_clock name cycles seed p device is file holds) =
     asked_comes files files words (sync name cycles seed) (Err (ending 6 (no_clock_line (name_of p device)))) is (cut_comes files name cycles seed p device file holds)
 cause_outcome files words _ (causes.rejects name plant reject is file) =
-    asked_comes files files words (check name) (verdict_answer plant (Some reject)) is (check_comes files name plant file.bundles (Some reject) file.are file.rejects)
+    outcome files files words (Err (rejected plant reject)) (checked_comes_to files (asked_of words) name plant reject is file)
 cause_outcome files words _ (causes.overruns name p frame is file holds) =
     asked_comes files files words (plan name) (Err (ending 9 (overrun_line frame.0))) is
     (refused_comes files name p (overruns frame) (ending 9 (overrun_line frame.0)) file holds refl)
@@ -208,3 +254,11 @@ cause_outcome files words _ (causes.shows name bundle is file) =
     (comes_on (bundle_steps name) (λ b. gives (bundle_text b)) files files files bundle (Ok (bundle_text bundle)) (bundle_comes files name bundle file) (refl, refl))
 cause_outcome files words _ (causes.reports name cycles seed p text is file holds) =
     asked_comes files files words (sync name cycles seed) (Ok text) is (made_comes files name cycles seed p text file holds)
+cause_outcome files words _ (causes.no_path asked p bundles traffic is plan holds) =
+    run_outcome files words asked (Err (ending 6 (no_path_line traffic))) is (cut_comes_to files asked.plant asked.cycles asked.world p bundles traffic plan holds)
+cause_outcome files words _ (causes.wrong_world asked p bundles walks name line place is named plan held) =
+    run_outcome files words asked (Err (ending 10 (world_line line place))) is (wrong_comes files asked p bundles walks name line place named plan held)
+cause_outcome files words _ (causes.long_run asked p bundles walks is plan over) =
+    run_outcome files words asked (Err (ending 11 long_run_line)) is (long_comes files asked p bundles walks plan over)
+cause_outcome files words _ (causes.runs asked p bundles walks world text is of says) =
+    run_outcome files words asked (Ok text) is (run_comes files asked p bundles walks world text of says)

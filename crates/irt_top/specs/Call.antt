@@ -11,6 +11,7 @@ use Rattle.irt_top.specs.Cause.{IsCauseOf}
 use Rattle.irt_top.specs.Check.{IsSafePlan}
 use Rattle.irt_top.specs.Commands.{IsBuilt, IsUsage, StoresFiles, steps_of}
 use Rattle.irt_top.specs.Plan.{IsStoredPlan, IsPlanInOrder}
+use Rattle.irt_top.specs.Run.{RunAsked, run_asked, IsSafeRunText}
 
 -- the words, and the shelf and the sink before the call and after it
 pub record Call : Type 0 where
@@ -83,6 +84,12 @@ abbrev pub IsSafeWhereAccepted : Call → ℕ → Type 0
 IsSafeWhereAccepted c status =
     status ≡ 0 → (name : List ℕ) → asked_of c.words ≡ Some (check name) → IsSafePlan c.files name
 
+-- What `run` prints is the text of a record: that of the lockstep run of the plan that the files spell, over the world of
+-- the words. The plan's rules hold, and the run is safe.
+abbrev pub RunsSafely : Call → ℕ → Type 0
+RunsSafely c status = status ≡ 0 → (asked : RunAsked) → run_asked (asked_of c.words) ≡ Some asked →
+    (text : List ℕ) × Appends c.taken c.taken_after text × IsSafeRunText c.files asked text
+
 -- Words that are no command are told so, and no other words are.
 abbrev pub TellsUsage : Call → ℕ → Type 0
 TellsUsage c status = (status ≡ 1 → IsUsage c.words) × (IsUsage c.words → (status ≡ 1) ⊎ (status ≡ 12) ⊎ (status ≡ 13))
@@ -107,4 +114,6 @@ pub data IsStatus : ℕ → Type 0 where
   malformed : IsStatus 7
   reject : IsStatus 8
   overrun : IsStatus 9
+  world : IsStatus 10
+  long_run : IsStatus 11
   faulty : {status : ℕ} → IsFaulty status → IsStatus status

@@ -11,8 +11,8 @@ use Rattle.plan_run.specs.World.{IsSeedWorld}
 use Rattle.world_file.specs.Text.{IsWorldFile}
 use Rattle.world_file.specs.Wrong.{IsFirstWrong}
 use Rattle.irt_top.specs.Lines.{world_line}
-use Rattle.irt_top.specs.declared.run.WorldAsked.{WorldAsked}
-use Rattle.irt_top.specs.declared.run.WorldAsked.TheVariants as words
+use Rattle.irt_top.specs.declared.world.WorldAsked.{WorldAsked}
+use Rattle.irt_top.specs.declared.world.WorldAsked.TheVariants as words
 
 -- by a seed, or by the name of a file
 pub data WorldSource : Type 0 where

@@ -42,7 +42,7 @@ pub fn run<R: Threads + Sync, S: Shelf>(
     world: WorldAsked<'_>,
 ) -> Result<Vec<u8>, Stop>
     requires { cycles ≤ MAX_CYCLES }
-    ensures step { Follows (λ v. v.items) (run_steps name.now cycles (source_of world)) (S.files shelf.old) (S.files shelf.new) result }
+    ensures step { Follows (λ v. v.items) (run_steps name.now cycles (source_of world.entry)) (S.files shelf.old) (S.files shelf.new) result }
     ensures kept { S.files shelf.new ≡ S.files shelf.old }
     ensures cause { HasCause (S.faults shelf.old) (S.faults shelf.new) result }
     ensures later { IsLater (S.faults shelf.old) (S.faults shelf.new) }
@@ -62,7 +62,7 @@ fn run_plant<R: Threads + Sync, S: Shelf>(
 ) -> Result<Vec<u8>, Stop>
     requires rules { MeetsRules plant.now }
     requires cycles { cycles ≤ MAX_CYCLES }
-    ensures step { Follows (λ v. v.items) (run_plant_steps cycles (source_of world) plant.now) (S.files shelf.old) (S.files shelf.new) result }
+    ensures step { Follows (λ v. v.items) (run_plant_steps cycles (source_of world.entry) plant.now) (S.files shelf.old) (S.files shelf.new) result }
     ensures kept { S.files shelf.new ≡ S.files shelf.old }
     ensures cause { HasCause (S.faults shelf.old) (S.faults shelf.new) result }
     ensures later { IsLater (S.faults shelf.old) (S.faults shelf.new) }
@@ -83,7 +83,7 @@ fn run_plan<R: Threads + Sync, S: Shelf>(
 ) -> Result<Vec<u8>, Stop>
     requires plan { IsPlan plant.now bundles.now }
     requires cycles { cycles ≤ MAX_CYCLES }
-    ensures step { Follows (λ v. v.items) (run_plan_steps cycles (source_of world) plant.now bundles.now) (S.files shelf.old) (S.files shelf.new) result }
+    ensures step { Follows (λ v. v.items) (run_plan_steps cycles (source_of world.entry) plant.now bundles.now) (S.files shelf.old) (S.files shelf.new) result }
     ensures kept { S.files shelf.new ≡ S.files shelf.old }
     ensures cause { HasCause (S.faults shelf.old) (S.faults shelf.new) result }
     ensures later { IsLater (S.faults shelf.old) (S.faults shelf.new) }
@@ -115,7 +115,7 @@ fn run_accepted<R: Threads + Sync, S: Shelf>(
     world: WorldAsked<'_>,
 ) -> Result<Vec<u8>, Stop>
     requires { cycles ≤ MAX_CYCLES }
-    ensures step { Follows (λ v. v.items) (ran_steps cycles (source_of world) accepted.now.plant accepted.now.bundles) (S.files shelf.old) (S.files shelf.new) result }
+    ensures step { Follows (λ v. v.items) (ran_steps cycles (source_of world.entry) accepted.now.plant accepted.now.bundles) (S.files shelf.old) (S.files shelf.new) result }
     ensures kept { S.files shelf.new ≡ S.files shelf.old }
     ensures cause { HasCause (S.faults shelf.old) (S.faults shelf.new) result }
     ensures later { IsLater (S.faults shelf.old) (S.faults shelf.new) }
@@ -154,7 +154,7 @@ fn run_walked<R: Threads + Sync, S: Shelf>(
 ) -> Result<Vec<u8>, Stop>
     requires routes { IsRoutesOf accepted.now.plant routes.now }
     requires cycles { cycles ≤ MAX_CYCLES }
-    ensures step { Follows (λ v. v.items) (walked_steps cycles (source_of world) accepted.now.plant accepted.now.bundles routes.now.walks) (S.files shelf.old) (S.files shelf.new) result }
+    ensures step { Follows (λ v. v.items) (walked_steps cycles (source_of world.entry) accepted.now.plant accepted.now.bundles routes.now.walks) (S.files shelf.old) (S.files shelf.new) result }
     ensures kept { S.files shelf.new ≡ S.files shelf.old }
     ensures cause { HasCause (S.faults shelf.old) (S.faults shelf.new) result }
     ensures later { IsLater (S.faults shelf.old) (S.faults shelf.new) }
@@ -193,7 +193,7 @@ fn run_sized<R: Threads + Sync, S: Shelf>(
 ) -> Result<Vec<u8>, Stop>
     requires routes { IsRoutesOf accepted.now.plant routes.now }
     requires cycles { cycles ≤ MAX_CYCLES }
-    ensures step { Follows (λ v. v.items) (sized_steps cycles (source_of world) accepted.now.plant accepted.now.bundles routes.now.walks) (S.files shelf.old) (S.files shelf.new) result }
+    ensures step { Follows (λ v. v.items) (sized_steps cycles (source_of world.entry) accepted.now.plant accepted.now.bundles routes.now.walks) (S.files shelf.old) (S.files shelf.new) result }
     ensures kept { S.files shelf.new ≡ S.files shelf.old }
     ensures cause { HasCause (S.faults shelf.old) (S.faults shelf.new) result }
     ensures later { IsLater (S.faults shelf.old) (S.faults shelf.new) }

@@ -5,14 +5,16 @@ ghost use Rattle.irt_io.specs.Fault.{IsLater};
 ghost use Rattle.irt_steps.specs.Follow.{Follows, HasCause};
 ghost use Rattle.irt_words.specs.Asked.{asked_of, texts_of};
 ghost use Rattle.irt_words.specs.Commands.{command_of};
-ghost use Rattle.irt_top.specs.Call.{call, FollowsSteps, TellsCause, HasEveryCause, IsSafeWhereAccepted, StoresSafePlan, StoresInOrder, KeepsFiles, TellsUsage, TakesStated, TellsFaults, IsStatus};
-ghost use Rattle.irt_top.specs.Commands.{HasFewCycles, StoresFiles, asked_steps, steps_of};
+ghost use Rattle.irt_top.specs.Call.{call, FollowsSteps, TellsCause, HasEveryCause, IsSafeWhereAccepted, RunsSafely, StoresSafePlan, StoresInOrder, KeepsFiles, TellsUsage, TakesStated, TellsFaults, IsStatus};
+ghost use Rattle.irt_top.specs.Commands.{HasCycles, StoresFiles, asked_steps, steps_of};
 
 use crate::check::check;
 use crate::line::usage_line;
 use crate::plan::plan;
+use crate::run::run;
 use crate::show::show;
 use crate::sync::sync;
+use crate::world::WorldAsked;
 use fit_rules::law::{first_fit_is_accepted, first_fit_is_one};
 use irt_base::numbers::Status;
 use irt_io::shelf::Shelf;
@@ -25,10 +27,12 @@ use irt_words::asked::Asked;
 use irt_words::law::stated_words_are_read;
 use irt_words::reading::read_words;
 use plan_rules::law::accepted_plans_are_safe;
+use plan_run::law::{run_texts_are_one, runs_of_accepted_plans_are_safe, worlds_and_walks_are_one};
 use plan_schedule::law::plan_texts_are_one;
 use std::alloc::Global;
 use std::thread::Threads;
 use sync_world::law::reports_are_one;
+use world_file::law::{one_first_wrong, one_world};
 
 /// Runs the command of the words. It always returns.
 ///
@@ -49,6 +53,8 @@ pub fn irt_calm<R: Threads + Sync, S: Shelf, K: Sink>(
     ensures exact { HasEveryCause (call S.files S.faults K.taken K.faults words.now shelf.old shelf.new sink.old sink.new) result.0 }
     // A plan that is accepted is safe over every world.
     ensures safe { IsSafeWhereAccepted (call S.files S.faults K.taken K.faults words.now shelf.old shelf.new sink.old sink.new) result.0 }
+    // What `run` prints is the text of the record of an accepted plan's run, which is safe over its world.
+    ensures ran { RunsSafely (call S.files S.faults K.taken K.faults words.now shelf.old shelf.new sink.old sink.new) result.0 }
     // Status 1 is of words that are no command, whatever the shelf is.
     ensures usage { TellsUsage (call S.files S.faults K.taken K.faults words.now shelf.old shelf.new sink.old sink.new) result.0 }
     // Words that state a command are never usage.
@@ -70,30 +76,41 @@ pub fn irt_calm<R: Threads + Sync, S: Shelf, K: Sink>(
     parents_of_trees();
     plan_texts_are_one();
     reports_are_one();
-    let ended = run(alloc, words, shelf);
+    run_texts_are_one();
+    worlds_and_walks_are_one();
+    one_world();
+    one_first_wrong();
+    runs_of_accepted_plans_are_safe();
+    let ended = run_words(rt, alloc, words, shelf);
     finish(sink, ended)
 }
 
 /// The steps of the words' command.
-fn run<S: Shelf>(alloc: Global, words: &[String], shelf: &mut S) -> Result<Vec<u8>, Stop>
+fn run_words<R: Threads + Sync, S: Shelf>(
+    rt: &R,
+    alloc: Global,
+    words: &[String],
+    shelf: &mut S,
+) -> Result<Vec<u8>, Stop>
     ensures step { Follows (λ v. v.items) (steps_of (texts_of words.now)) (S.files shelf.old) (S.files shelf.new) result }
     ensures kept { ¬ StoresFiles (asked_of (texts_of words.now)) → S.files shelf.new ≡ S.files shelf.old }
     ensures cause { HasCause (S.faults shelf.old) (S.faults shelf.new) result }
     ensures later { IsLater (S.faults shelf.old) (S.faults shelf.new) }
 {
     match read_words(alloc, words) {
-        Ok(asked) => run_asked(alloc, asked, shelf),
+        Ok(asked) => run_asked(rt, alloc, asked, shelf),
         Err(_) => Err(Stop::NoMemory),
     }
 }
 
 /// The steps of what words ask for.
-fn run_asked<S: Shelf>(
+fn run_asked<R: Threads + Sync, S: Shelf>(
+    rt: &R,
     alloc: Global,
     asked: Option<Asked<'_>>,
     shelf: &mut S,
 ) -> Result<Vec<u8>, Stop>
-    requires { HasFewCycles (option_map command_of asked) }
+    requires { HasCycles (option_map command_of asked) }
     ensures step { Follows (λ v. v.items) (asked_steps (option_map command_of asked.entry)) (S.files shelf.old) (S.files shelf.new) result }
     ensures kept { ¬ StoresFiles (option_map command_of asked.entry) → S.files shelf.new ≡ S.files shelf.old }
     ensures cause { HasCause (S.faults shelf.old) (S.faults shelf.new) result }
@@ -110,6 +127,20 @@ fn run_asked<S: Shelf>(
                 seed,
             },
         ) => sync(alloc, shelf, plant, cycles, seed),
+        Some(
+            Asked::Run {
+                plant,
+                cycles,
+                seed,
+            },
+        ) => run(rt, alloc, shelf, plant, cycles, WorldAsked::Seed(seed)),
+        Some(
+            Asked::RunWorld {
+                plant,
+                cycles,
+                world,
+            },
+        ) => run(rt, alloc, shelf, plant, cycles, WorldAsked::File(world)),
         _ => Err(line_stop(Cause::Usage, usage_line(alloc))),
     }
 }

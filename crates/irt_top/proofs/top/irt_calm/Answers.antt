@@ -2,11 +2,12 @@ use Rattle.irt_steps.proofs.EndedLemmas.{finishes}
 use Rattle.irt_words.specs.Asked.{texts_of}
 use Rattle.irt_top.specs.Commands.{steps_of}
 use Rattle.irt_top.proofs.CallLemmas.{tells_cause, has_every_cause, is_safe, tells_usage, takes_stated, tells_faults, has_status, stores_safe, stores_in_order, keeps_files}
+use Rattle.irt_top.proofs.RunSafe.{runs_safely}
 use Rattle.irt_top.proofs.top.irt_calm.Goals as goal
 
 pub returns-clause-ends : goal.returns-clause-ends
 returns-clause-ends g c =
-    finishes (steps_of (texts_of c.args.words.now)) _ _ _ _ _ _ _ _ c.run-ended.ensures.step c.run-ended.ensures.cause c.finish.ensures
+    finishes (steps_of (texts_of c.args.words.now)) _ _ _ _ _ _ _ _ c.run_words-ended.ensures.step c.run_words-ended.ensures.cause c.finish.ensures
 
 pub returns-clause-cause : goal.returns-clause-cause
 returns-clause-cause g c = tells_cause _ _ (returns-clause-ends g c)
@@ -16,10 +17,23 @@ returns-clause-exact g c =
     let trees = c.parents_of_trees.ensures in
     let fits = c.first_fit_is_one.ensures in
     has_every_cause (record { one = trees.one; start = trees.start }) (record { bundles = fits.bundles; excluded = fits.excluded; overruns = fits.overruns })
-    c.plan_texts_are_one.ensures.texts c.reports_are_one.ensures _ _ (returns-clause-ends g c)
+    c.plan_texts_are_one.ensures.texts c.reports_are_one.ensures
+    (record {
+      texts = c.run_texts_are_one.ensures;
+      worlds = c.worlds_and_walks_are_one.ensures.worlds;
+      walks = c.worlds_and_walks_are_one.ensures.walks;
+      files = c.one_world.ensures;
+      wrongs = c.one_first_wrong.ensures.one;
+      excluded = c.one_first_wrong.ensures.none;
+    })
+    _ _ (returns-clause-ends g c)
 
 pub returns-clause-safe : goal.returns-clause-safe
 returns-clause-safe g c = is_safe c.accepted_plans_are_safe.ensures _ _ (returns-clause-cause g c)
+
+pub returns-clause-ran : goal.returns-clause-ran
+returns-clause-ran g c =
+    runs_safely (record { safe = c.runs_of_accepted_plans_are_safe.ensures; cycles = c.worlds_and_walks_are_one.ensures.cycles }) _ _ (returns-clause-cause g c)
 
 pub returns-clause-usage : goal.returns-clause-usage
 returns-clause-usage g c = tells_usage _ _ (returns-clause-ends g c)
@@ -39,7 +53,7 @@ returns-clause-stored g c =
     stores_safe (record { plan = law.plan; accepted = law.accepted; safe = law.safe }) _ _ (returns-clause-ends g c)
 
 pub returns-clause-kept : goal.returns-clause-kept
-returns-clause-kept g c = keeps_files _ _ c.run-ended.ensures.kept (returns-clause-ends g c)
+returns-clause-kept g c = keeps_files _ _ c.run_words-ended.ensures.kept (returns-clause-ends g c)
 
 pub returns-clause-order : goal.returns-clause-order
 returns-clause-order g c =
