@@ -62,9 +62,9 @@ cause_status files words _ (causes.plans name plant bundles text is file are so)
 cause_status files words _ (causes.accepts name is file) = calls.done
 cause_status files words _ (causes.shows name bundle is file) = calls.done
 cause_status files words _ (causes.reports name cycles seed plant text is file holds) = calls.done
-cause_status files words _ (causes.no_path asked p bundles traffic is plan holds) = calls.no_walk
-cause_status files words _ (causes.wrong_world asked p bundles walks name line place is named plan held) = calls.world
-cause_status files words _ (causes.long_run asked p bundles walks is plan over) = calls.long_run
+cause_status files words _ (causes.no_path asked p bundles traffic is known holds) = calls.no_walk
+cause_status files words _ (causes.wrong_world asked p bundles walks name line place is named known held) = calls.world
+cause_status files words _ (causes.long_run asked p bundles walks is known over) = calls.long_run
 cause_status files words _ (causes.runs asked p bundles walks world text is of says) = calls.done
 
 pub has_status : (c : Call) (status : ℕ) → TellsCause c status → IsStatus status
@@ -144,9 +144,9 @@ cause_safe law files words _ name (causes.reports at cycles seed plant text is f
   where
     other : (a : List ℕ) (c s : ℕ) (b : List ℕ) → Some (sync a c s) ≡ some_check b → ⊥
     other a c s b same = absurd cc
-cause_safe law files words _ name (causes.no_path asked_run p bundles traffic is plan holds) zero asked = absurd cc
-cause_safe law files words _ name (causes.wrong_world asked_run p bundles walks at line place is named plan held) zero asked = absurd cc
-cause_safe law files words _ name (causes.long_run asked_run p bundles walks is plan over) zero asked = absurd cc
+cause_safe law files words _ name (causes.no_path asked_run p bundles traffic is known holds) zero asked = absurd cc
+cause_safe law files words _ name (causes.wrong_world asked_run p bundles walks at line place is named known held) zero asked = absurd cc
+cause_safe law files words _ name (causes.long_run asked_run p bundles walks is known over) zero asked = absurd cc
 cause_safe law files words _ name (causes.runs asked_run p bundles walks world text is of says) zero asked = absurd (none-some asked_run (sym (ap run_asked asked) ∙ is))
 
 pub not_faulty : (n : ℕ) → IsFaulty n → (n ≡ 0) ⊎ (n ≡ 1) → ⊥
@@ -275,9 +275,9 @@ cause_usage files words _ (causes.rejects name plant reject is file) one = absur
 cause_usage files words _ (causes.accepts name is file) one = absurd cc
 cause_usage files words _ (causes.shows name bundle is file) one = absurd cc
 cause_usage files words _ (causes.reports name cycles seed plant text is file holds) one = absurd cc
-cause_usage files words _ (causes.no_path asked p bundles traffic is plan holds) one = absurd cc
-cause_usage files words _ (causes.wrong_world asked p bundles walks name line place is named plan held) one = absurd cc
-cause_usage files words _ (causes.long_run asked p bundles walks is plan over) one = absurd cc
+cause_usage files words _ (causes.no_path asked p bundles traffic is known holds) one = absurd cc
+cause_usage files words _ (causes.wrong_world asked p bundles walks name line place is named known held) one = absurd cc
+cause_usage files words _ (causes.long_run asked p bundles walks is known over) one = absurd cc
 cause_usage files words _ (causes.runs asked p bundles walks world text is of says) one = absurd cc
 
 usage_of : (c : Call) (status : ℕ) → TellsCause c status → status ≡ 1 → IsUsage c.words
@@ -314,9 +314,9 @@ cause_plain files words _ (causes.rejects name plant reject is file) = ((λ so. 
 cause_plain files words _ (causes.accepts name is file) = ((λ so. absurd cc), λ so. absurd cc)
 cause_plain files words _ (causes.shows name bundle is file) = ((λ so. absurd cc), λ so. absurd cc)
 cause_plain files words _ (causes.reports name cycles seed plant text is file holds) = ((λ so. absurd cc), λ so. absurd cc)
-cause_plain files words _ (causes.no_path asked p bundles traffic is plan holds) = ((λ so. absurd cc), λ so. absurd cc)
-cause_plain files words _ (causes.wrong_world asked p bundles walks name line place is named plan held) = ((λ so. absurd cc), λ so. absurd cc)
-cause_plain files words _ (causes.long_run asked p bundles walks is plan over) = ((λ so. absurd cc), λ so. absurd cc)
+cause_plain files words _ (causes.no_path asked p bundles traffic is known holds) = ((λ so. absurd cc), λ so. absurd cc)
+cause_plain files words _ (causes.wrong_world asked p bundles walks name line place is named known held) = ((λ so. absurd cc), λ so. absurd cc)
+cause_plain files words _ (causes.long_run asked p bundles walks is known over) = ((λ so. absurd cc), λ so. absurd cc)
 cause_plain files words _ (causes.runs asked p bundles walks world text is of says) = ((λ so. absurd cc), λ so. absurd cc)
 
 pub tells_faults : (c : Call) (status : ℕ) → FollowsSteps c status → TellsFaults c status

@@ -121,12 +121,12 @@ run_came_cause files words asked _ is plant checked steps (came.device_stopped a
     stops_at files words at e (subst (λ s. LoadsNext s files at DEVICE_FILE files) (sym steps) next) stops
 run_came_cause files words asked _ is plant checked steps (came.refused p bundles r are rejects) =
     causes.rejects asked.plant p r checked (record { bundles = bundles; are = are; rejects = rejects })
-run_came_cause files words asked _ is plant checked steps (came.cut p bundles traffic plan holds) = causes.no_path asked p bundles traffic is plan holds
-run_came_cause files words asked _ is plant checked steps (came.long p bundles walks plan over) = causes.long_run asked p bundles walks is plan over
+run_came_cause files words asked _ is plant checked steps (came.cut p bundles traffic known holds) = causes.no_path asked p bundles traffic is known holds
+run_came_cause files words asked _ is plant checked steps (came.long p bundles walks known over) = causes.long_run asked p bundles walks is known over
 run_came_cause files words asked _ is plant checked steps (came.world_stopped at e next why) =
     unloaded_cause files words at WORLD_FILE e (subst (λ s. LoadsNext s files at WORLD_FILE files) (sym steps) next) why
-run_came_cause files words asked _ is plant checked steps (came.wrong_world p bundles walks at line place named plan held) =
-    causes.wrong_world asked p bundles walks at line place is named plan held
+run_came_cause files words asked _ is plant checked steps (came.wrong_world p bundles walks at line place named known held) =
+    causes.wrong_world asked p bundles walks at line place is named known held
 run_came_cause files words asked _ is plant checked steps (came.made p bundles walks world text of says) = causes.runs asked p bundles walks world text is of says
 
 run_cause : (files new : Option Files) (words : List (List ℕ)) (name : List ℕ) (cycles seed : ℕ) (result : Answer) → asked_of words ≡ Some (run name cycles seed) →

@@ -254,11 +254,11 @@ cause_outcome files words _ (causes.shows name bundle is file) =
     (comes_on (bundle_steps name) (λ b. gives (bundle_text b)) files files files bundle (Ok (bundle_text bundle)) (bundle_comes files name bundle file) (refl, refl))
 cause_outcome files words _ (causes.reports name cycles seed p text is file holds) =
     asked_comes files files words (sync name cycles seed) (Ok text) is (made_comes files name cycles seed p text file holds)
-cause_outcome files words _ (causes.no_path asked p bundles traffic is plan holds) =
-    run_outcome files words asked (Err (ending 6 (no_path_line traffic))) is (cut_comes_to files asked.plant asked.cycles asked.world p bundles traffic plan holds)
-cause_outcome files words _ (causes.wrong_world asked p bundles walks name line place is named plan held) =
-    run_outcome files words asked (Err (ending 10 (world_line line place))) is (wrong_comes files asked p bundles walks name line place named plan held)
-cause_outcome files words _ (causes.long_run asked p bundles walks is plan over) =
-    run_outcome files words asked (Err (ending 11 long_run_line)) is (long_comes files asked p bundles walks plan over)
+cause_outcome files words _ (causes.no_path asked p bundles traffic is known holds) =
+    run_outcome files words asked (Err (ending 6 (no_path_line traffic))) is (cut_comes_to files asked.plant asked.cycles asked.world p bundles traffic known holds)
+cause_outcome files words _ (causes.wrong_world asked p bundles walks name line place is named known held) =
+    run_outcome files words asked (Err (ending 10 (world_line line place))) is (wrong_comes files asked p bundles walks name line place named known held)
+cause_outcome files words _ (causes.long_run asked p bundles walks is known over) =
+    run_outcome files words asked (Err (ending 11 long_run_line)) is (long_comes files asked p bundles walks known over)
 cause_outcome files words _ (causes.runs asked p bundles walks world text is of says) =
     run_outcome files words asked (Ok text) is (run_comes files asked p bundles walks world text of says)

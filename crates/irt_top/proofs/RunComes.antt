@@ -55,15 +55,15 @@ module _ (files : Option Files) (name : List ℕ) (cycles : ℕ) (source : World
 
   from_accepted : (result : Answer) → IsCheckedPlan files name p bundles → Comes (ran_steps cycles source p bundles) files files result →
       Comes (run_steps name cycles source) files files result
-  from_accepted result plan comes =
-      from_plan result plan.are
-      (comes_on (accepted_steps p bundles) (λ accepted. ran_steps cycles source p bundles) files files files tt result (None, plan.accepted, (refl, refl)) comes)
+  from_accepted result known comes =
+      from_plan result known.are
+      (comes_on (accepted_steps p bundles) (λ accepted. ran_steps cycles source p bundles) files files files tt result (None, known.accepted, (refl, refl)) comes)
 
   from_walked : (walks : List (List PortNo)) (result : Answer) → IsWalkedPlan files name p bundles walks → Comes (walked_steps cycles source p bundles walks) files files result →
       Comes (run_steps name cycles source) files files result
-  from_walked walks result plan comes =
-      from_accepted result plan.checked
-      (comes_on (walks_steps p) (walked_steps cycles source p bundles) files files files walks result (walked walks, plan.are_walks, (refl, refl)) comes)
+  from_walked walks result known comes =
+      from_accepted result known.checked
+      (comes_on (walks_steps p) (walked_steps cycles source p bundles) files files files walks result (walked walks, known.are_walks, (refl, refl)) comes)
 
   pub rejected_comes : (r : Reject) → ArePlanFiles files name p bundles → IsReject p bundles r → Comes (run_steps name cycles source) files files (Err (rejected p r))
   rejected_comes r are rejects =
@@ -72,8 +72,8 @@ module _ (files : Option Files) (name : List ℕ) (cycles : ℕ) (source : World
 
   pub cut_comes : (traffic : ℕ) → IsCheckedPlan files name p bundles → IsFirstCutTraffic (peer_of p) p.traffic traffic →
       Comes (run_steps name cycles source) files files (Err (ending 6 (no_path_line traffic)))
-  cut_comes traffic plan holds =
-      from_accepted (Err (ending 6 (no_path_line traffic))) plan
+  cut_comes traffic known holds =
+      from_accepted (Err (ending 6 (no_path_line traffic))) known
       (comes_end (walks_steps p) (walked_steps cycles source p bundles) files files (ending 6 (no_path_line traffic)) (no_path traffic, holds, (refl, refl)))
 
 over_comes : (over : Bool) (files : Option Files) → over ≡ true → Comes (judged (size_answer over)) files files (Err (ending 11 long_run_line))
@@ -86,17 +86,17 @@ fits_comes false files is = (refl, refl)
 
 pub long_comes : (files : Option Files) (asked : RunAsked) (p : Plant) (bundles : List Bundle) (walks : List (List PortNo)) → IsWalkedPlan files asked.plant p bundles walks →
     is_too_long p bundles walks asked.cycles ≡ true → Comes (run_steps asked.plant asked.cycles asked.world) files files (Err (ending 11 long_run_line))
-long_comes files asked p bundles walks plan over =
-    from_walked files asked.plant asked.cycles asked.world p bundles walks (Err (ending 11 long_run_line)) plan
+long_comes files asked p bundles walks known over =
+    from_walked files asked.plant asked.cycles asked.world p bundles walks (Err (ending 11 long_run_line)) known
     (comes_end (size_steps p bundles walks asked.cycles) (λ fits. sized_steps asked.cycles asked.world p bundles walks) files files (ending 11 long_run_line)
     (over_comes (is_too_long p bundles walks asked.cycles) files over))
 
 from_sized : (files : Option Files) (asked : RunAsked) (p : Plant) (bundles : List Bundle) (walks : List (List PortNo)) (result : Answer) → IsSizedPlan files asked p bundles walks →
     Comes (sized_steps asked.cycles asked.world p bundles walks) files files result → Comes (run_steps asked.plant asked.cycles asked.world) files files result
-from_sized files asked p bundles walks result plan comes =
-    from_walked files asked.plant asked.cycles asked.world p bundles walks result plan.walked
+from_sized files asked p bundles walks result known comes =
+    from_walked files asked.plant asked.cycles asked.world p bundles walks result known.walked
     (comes_on (size_steps p bundles walks asked.cycles) (λ fits. sized_steps asked.cycles asked.world p bundles walks) files files files tt result
-    (fits_comes (is_too_long p bundles walks asked.cycles) files plan.fits) comes)
+    (fits_comes (is_too_long p bundles walks asked.cycles) files known.fits) comes)
 
 wrong_stops : (files : Option Files) (source : WorldSource) (name : List ℕ) (p : Plant) (bundles : List Bundle) (cycles line place : ℕ) → source ≡ by_file name →
     IsWrongHeld files name p bundles cycles line place → Comes (world_steps source p bundles cycles) files files (Err (ending 10 (world_line line place)))
@@ -107,8 +107,8 @@ wrong_stops files source name p bundles cycles line place named held =
 pub wrong_comes : (files : Option Files) (asked : RunAsked) (p : Plant) (bundles : List Bundle) (walks : List (List PortNo)) (name : List ℕ) (line place : ℕ) → asked.world ≡ by_file name →
     IsSizedPlan files asked p bundles walks → IsWrongHeld files name p bundles asked.cycles line place →
     Comes (run_steps asked.plant asked.cycles asked.world) files files (Err (ending 10 (world_line line place)))
-wrong_comes files asked p bundles walks name line place named plan held =
-    from_sized files asked p bundles walks (Err (ending 10 (world_line line place))) plan
+wrong_comes files asked p bundles walks name line place named known held =
+    from_sized files asked p bundles walks (Err (ending 10 (world_line line place))) known
     (comes_end (world_steps asked.world p bundles asked.cycles) (record_steps p bundles walks) files files (ending 10 (world_line line place))
     (wrong_stops files asked.world name p bundles asked.cycles line place named held))
 

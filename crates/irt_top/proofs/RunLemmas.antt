@@ -1,5 +1,5 @@
 -- How the steps of a run follow each other.
-use Rattle.std.proofs.Common.{◌≡◌, ℕ, List, Option, Result, Ok, Err, inl, refl, sym, ◌∙◌, ap, subst}
+use Rattle.std.proofs.Common.{◌≡◌, ℕ, List, Option, Some, Result, Ok, Err, option_map, inl, refl, sym, ◌∙◌, ap, subst}
 use Rattle.std.specs.Global.{Vec}
 use Rattle.std.specs.Prelude.{IfOk}
 use Rattle.irt_base.specs.Wiring.{peer_of}
@@ -23,6 +23,9 @@ use Rattle.world_file.specs.Text.{IsWorldFile}
 use Rattle.world_file.specs.Wrong.{IsRefusal}
 use Rattle.world_file.specs.declared.fault.WorldFault.{WorldFault}
 use Rattle.world_file.specs.declared.fault.WorldFault.TheVariants as worlds
+use Rattle.irt_words.specs.Commands.{command_of}
+use Rattle.irt_words.specs.declared.asked.Asked.{Asked}
+use Rattle.irt_top.specs.Commands.{asked_steps}
 use Rattle.irt_top.specs.Lines.{no_path_line, world_line}
 use Rattle.irt_top.specs.Run.{Walking, no_path, walked, IsWalking, walking_answer, walks_steps, ran_steps, run_plan_steps}
 use Rattle.irt_top.specs.World.{WorldSource, by_seed, source_of, WorldReading, right, wrong, IsWorldReading, reading_answer, reading_steps, world_steps}
@@ -111,3 +114,9 @@ pub follow_seed : (asked : WorldAsked) (seed : ℕ) (plant : Plant) (bundles : L
     Decides the_world (world_steps (by_seed seed) plant bundles cycles) result → Follows the_world (world_steps (source_of asked) plant bundles cycles) files files result
 follow_seed asked seed plant bundles cycles files result is decides =
     subst (λ (a : WorldAsked). Follows the_world (world_steps (source_of a) plant bundles cycles) files files result) (sym is) (decides files)
+
+-- what words ask for
+pub asked_on : (asked : Option Asked) (found a : Asked) (old new : Option Files) (result : Result (Vec ℕ) Stop) → asked ≡ Some found → found ≡ a →
+    Follows (λ (v : Vec ℕ). v.items) (asked_steps (Some (command_of a))) old new result → Follows (λ (v : Vec ℕ). v.items) (asked_steps (option_map command_of asked)) old new result
+asked_on asked found a old new result is same follows =
+    subst (λ (o : Option Asked). Follows (λ (v : Vec ℕ). v.items) (asked_steps (option_map command_of o)) old new result) (sym (is ∙ ap Some same)) follows

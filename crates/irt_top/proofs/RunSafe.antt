@@ -90,9 +90,9 @@ module _ (laws : SafeLaws) where
   cause_runs files words _ asked (causes.no_clock at cycles seed plant device so file holds) zero is = absurd cc
   cause_runs files words _ asked (causes.rejects at plant reject so file) zero is = absurd cc
   cause_runs files words _ asked (causes.overruns at plant frame so file holds) zero is = absurd cc
-  cause_runs files words _ asked (causes.no_path other p bundles traffic so plan holds) zero is = absurd cc
-  cause_runs files words _ asked (causes.wrong_world other p bundles walks at line place so named plan held) zero is = absurd cc
-  cause_runs files words _ asked (causes.long_run other p bundles walks so plan over) zero is = absurd cc
+  cause_runs files words _ asked (causes.no_path other p bundles traffic so known holds) zero is = absurd cc
+  cause_runs files words _ asked (causes.wrong_world other p bundles walks at line place so named known held) zero is = absurd cc
+  cause_runs files words _ asked (causes.long_run other p bundles walks so known over) zero is = absurd cc
   cause_runs files words _ asked (causes.plans at plant bundles text so file are says) zero is = absurd (none-some asked (sym (ap run_asked so) ∙ is))
   cause_runs files words _ asked (causes.accepts at so file) zero is = absurd (none-some asked (sym (ap run_asked so) ∙ is))
   cause_runs files words _ asked (causes.shows at bundle so file) zero is = absurd (none-some asked (sym (ap run_asked so) ∙ is))

@@ -5,4 +5,4 @@ use Rattle.irt_top.proofs.CycleLemmas.{asked_few}
 use Rattle.irt_top.proofs.top.run_words.Goals as goal
 
 pub run_asked-requires : goal.run_asked-requires
-run_asked-requires g c = subst HasCycles (sym c.in-Ok.ensures) (asked_few (texts_of c.args.words.now))
+run_asked-requires g c = (c.type_bounds.sync-R, subst HasCycles (sym c.in-Ok.ensures) (asked_few (texts_of c.args.words.now)))
