@@ -1,5 +1,5 @@
 -- How the steps of a run follow each other.
-use Rattle.std.proofs.Common.{◌≡◌, ℕ, List, Option, Some, Result, Ok, Err, option_map, inl, refl, sym, ◌∙◌, ap, subst}
+use Rattle.std.proofs.Common.{◌≡◌, ℕ, List, Option, Some, Result, Ok, Err, inl, refl, sym, ◌∙◌, ap, subst}
 use Rattle.std.specs.Global.{Vec}
 use Rattle.std.specs.Prelude.{IfOk}
 use Rattle.irt_base.specs.Wiring.{peer_of}
@@ -115,8 +115,7 @@ pub follow_seed : (asked : WorldAsked) (seed : ℕ) (plant : Plant) (bundles : L
 follow_seed asked seed plant bundles cycles files result is decides =
     subst (λ (a : WorldAsked). Follows the_world (world_steps (source_of a) plant bundles cycles) files files result) (sym is) (decides files)
 
--- what words ask for
-pub asked_on : (asked : Option Asked) (found a : Asked) (old new : Option Files) (result : Result (Vec ℕ) Stop) → asked ≡ Some found → found ≡ a →
-    Follows (λ (v : Vec ℕ). v.items) (asked_steps (Some (command_of a))) old new result → Follows (λ (v : Vec ℕ). v.items) (asked_steps (option_map command_of asked)) old new result
-asked_on asked found a old new result is same follows =
-    subst (λ (o : Option Asked). Follows (λ (v : Vec ℕ). v.items) (asked_steps (option_map command_of o)) old new result) (sym (is ∙ ap Some same)) follows
+-- the steps of a command
+pub command_on : (asked a : Asked) (old new : Option Files) (result : Result (Vec ℕ) Stop) → asked ≡ a →
+    Follows (λ (v : Vec ℕ). v.items) (asked_steps (Some (command_of a))) old new result → Follows (λ (v : Vec ℕ). v.items) (asked_steps (Some (command_of asked))) old new result
+command_on asked a old new result is follows = subst (λ (x : Asked). Follows (λ (v : Vec ℕ). v.items) (asked_steps (Some (command_of x))) old new result) (sym is) follows

@@ -1,6 +1,6 @@
 //! The top call: words, files and a sink to a status.
 
-ghost use Rattle.std.specs.Prelude.{◌≡◌, option_map};
+ghost use Rattle.std.specs.Prelude.{◌≡◌, Some, option_map};
 ghost use Rattle.irt_io.specs.Fault.{IsLater};
 ghost use Rattle.irt_steps.specs.Follow.{Follows, HasCause};
 ghost use Rattle.irt_words.specs.Asked.{asked_of, texts_of};
@@ -117,30 +117,43 @@ fn run_asked<R: Threads + Sync, S: Shelf>(
     ensures later { IsLater (S.faults shelf.old) (S.faults shelf.new) }
 {
     match asked {
-        Some(Asked::Plan { plant }) => plan(alloc, shelf, plant),
-        Some(Asked::Check { plant }) => check(alloc, shelf, plant),
-        Some(Asked::Show { file }) => show(alloc, shelf, file),
-        Some(
-            Asked::Sync {
-                plant,
-                cycles,
-                seed,
-            },
-        ) => sync(alloc, shelf, plant, cycles, seed),
-        Some(
-            Asked::Run {
-                plant,
-                cycles,
-                seed,
-            },
-        ) => run(rt, alloc, shelf, plant, cycles, WorldAsked::Seed(seed)),
-        Some(
-            Asked::RunWorld {
-                plant,
-                cycles,
-                world,
-            },
-        ) => run(rt, alloc, shelf, plant, cycles, WorldAsked::File(world)),
+        Some(command) => run_command(rt, alloc, command, shelf),
+        None => Err(line_stop(Cause::Usage, usage_line(alloc))),
+    }
+}
+
+/// The steps of a command.
+fn run_command<R: Threads + Sync, S: Shelf>(
+    rt: &R,
+    alloc: Global,
+    asked: Asked<'_>,
+    shelf: &mut S,
+) -> Result<Vec<u8>, Stop>
+    requires { HasCycles (Some (command_of asked)) }
+    ensures step { Follows (λ v. v.items) (asked_steps (Some (command_of asked.entry))) (S.files shelf.old) (S.files shelf.new) result }
+    ensures kept { ¬ StoresFiles (Some (command_of asked.entry)) → S.files shelf.new ≡ S.files shelf.old }
+    ensures cause { HasCause (S.faults shelf.old) (S.faults shelf.new) result }
+    ensures later { IsLater (S.faults shelf.old) (S.faults shelf.new) }
+{
+    match asked {
+        Asked::Plan { plant } => plan(alloc, shelf, plant),
+        Asked::Check { plant } => check(alloc, shelf, plant),
+        Asked::Show { file } => show(alloc, shelf, file),
+        Asked::Sync {
+            plant,
+            cycles,
+            seed,
+        } => sync(alloc, shelf, plant, cycles, seed),
+        Asked::Run {
+            plant,
+            cycles,
+            seed,
+        } => run(rt, alloc, shelf, plant, cycles, WorldAsked::Seed(seed)),
+        Asked::RunWorld {
+            plant,
+            cycles,
+            world,
+        } => run(rt, alloc, shelf, plant, cycles, WorldAsked::File(world)),
         _ => Err(line_stop(Cause::Usage, usage_line(alloc))),
     }
 }
