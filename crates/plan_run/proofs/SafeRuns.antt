@@ -1,25 +1,21 @@
 -- The record of a run of accepted blocks is safe.
-use Rattle.std.proofs.Common.{◌≡◌, ℕ, ◌+◌, ◌≤◌, List, map, length, Some, slice_get, refl, sym, ◌∙◌, ap, subst, arith}
+use Rattle.std.proofs.Common.{◌≡◌, ℕ, ◌≤◌, List, length, Some, slice_get, sym, ◌∙◌, ap, subst, arith}
 use Rattle.std.specs.Prelude.{All}
 use Rattle.std.proofs.lemmas.List.{length-map}
 use Rattle.std.proofs.lemmas.Option.{same_Some}
 use Rattle.cycle_rows.specs.Journal.{IsJournal}
-use Rattle.cycle_rows.specs.Safe.{IsSafeJournal, SendsOnce, DeliversOnce, DropsOnce}
+use Rattle.cycle_rows.specs.Safe.{IsSafeJournal}
 use Rattle.cycle_rows.specs.declared.rows.JournalRow.{JournalRow}
-use Rattle.io_buffers.specs.Given.{Given}
 use Rattle.io_buffers.specs.declared.taken.Taken.{Taken}
 use Rattle.irt_base.specs.declared.blocks.Bundle.{Bundle}
 use Rattle.irt_base.specs.declared.numbers.PortNo.{PortNo}
-use Rattle.irt_base.specs.declared.plants.App.{App}
 use Rattle.irt_base.specs.declared.plants.Plant.{Plant}
 use Rattle.irt_world.specs.Rows.{world_row, world_rows}
 use Rattle.irt_world.specs.declared.rows.World.{World}
 use Rattle.iso_app.specs.Kinds.{kind_of, reply_of}
 use Rattle.iso_app.specs.declared.kinds.AppKind.{AppKind}
-use Rattle.iso_run.specs.Run.{IsRunJournal}
 use Rattle.iso_rules.specs.Legal.{IsLegal}
 use Rattle.iso_rules.specs.Lockstep.{AppLog, log_of, RunRecord, IsLockstepRecord}
-use Rattle.iso_rules.specs.declared.turn.Turn.{Turn}
 use Rattle.iso_rules.proofs.PlayedRuns.{runs_at, map_at}
 use Rattle.parcel_rules.specs.Rows.{parcel_rows}
 use Rattle.plan_rules.specs.Plan.{IsPlan, setup_of}
@@ -27,7 +23,7 @@ use Rattle.plan_rules.specs.Places.{IsAccepted}
 use Rattle.plan_rules.specs.Way.{Setup, IsInRange}
 use Rattle.plan_rules.specs.World.{WorldRow}
 use Rattle.plan_run.specs.Run.{IsRecordOf, kinds_of, next_kind}
-use Rattle.plan_run.specs.Safe.{HasWholeTakes, HaveWholeTakes, IsSafeRun}
+use Rattle.plan_run.specs.Safe.{HaveWholeTakes, IsSafeRun}
 use Rattle.record_text.specs.Text.{run_of}
 use Rattle.record_text.specs.declared.record.Record.{Record}
 

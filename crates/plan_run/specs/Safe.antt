@@ -1,8 +1,7 @@
 -- What the record of a run of accepted blocks keeps, over any world in range.
-use Rattle.std.specs.Prelude.{◌≡◌, ℕ, ◌+◌, List, map, length, Some, slice_get}
+use Rattle.std.specs.Prelude.{◌≡◌, ℕ, ◌+◌, List, map, Some, slice_get}
 use Rattle.cycle_rows.specs.Apart.{AreRowsApart}
 use Rattle.cycle_rows.specs.Safe.{SendsOnce, DeliversOnce, DropsOnce}
-use Rattle.cycle_rows.specs.declared.rows.JournalRow.{JournalRow}
 use Rattle.io_buffers.specs.Given.{Given}
 use Rattle.irt_base.specs.declared.plants.App.{App}
 use Rattle.irt_base.specs.declared.plants.Plant.{Plant}

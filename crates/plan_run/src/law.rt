@@ -15,10 +15,10 @@ ghost use Rattle.plan_run.specs.Safe.{IsSafeRun};
 ghost use Rattle.plan_run.specs.World.{IsSeedWorld};
 ghost use Rattle.record_text.specs.declared.record.Record.{Record};
 
-use iso_app::kinds::AppKind;
-use iso_rules::law::{lockstep_records_are_legal, lockstep_runs_are_one};
 use irt_route::laws::fronts_of_best_walks;
 use irt_world::law::fitting_worlds_are_in_range;
+use iso_app::kinds::AppKind;
+use iso_rules::law::{lockstep_records_are_legal, lockstep_runs_are_one};
 use parcel_rules::law::parcels_of_accepted_plans_are_apart;
 use sync_world::law::ptcp_worlds_are_one;
 

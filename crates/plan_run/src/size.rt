@@ -40,9 +40,11 @@ pub fn is_too_long(
     let rows = rows_a_cycle(plant, bundles, routes);
     let words = words_a_cycle(plant, bundles);
     let numbers = numbers_a_cycle(alloc, plant, bundles)?;
-    Ok(exceeds(cycles, rows, MAX_ROWS)
-        || exceeds(cycles, words, MAX_RUN_WORDS)
-        || exceeds(cycles, numbers, MAX_WORLD_NUMBERS))
+    Ok(
+        exceeds(cycles, rows, MAX_ROWS)
+            || exceeds(cycles, words, MAX_RUN_WORDS)
+            || exceeds(cycles, numbers, MAX_WORLD_NUMBERS),
+    )
 }
 
 /// Whether so many cycles of a size exceed a limit.

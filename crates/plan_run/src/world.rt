@@ -41,9 +41,7 @@ pub fn seed_world(
     accepted.facts();
     match accepted.plant().clocks {
         Clocks::World => seeded(alloc, seed, accepted.plant(), accepted.bundles(), cycles),
-        Clocks::Ptcp => {
-            heard_world(alloc, accepted.plant(), accepted.bundles(), cycles, seed)
-        }
+        Clocks::Ptcp => { heard_world(alloc, accepted.plant(), accepted.bundles(), cycles, seed) }
     }
 }
 
