@@ -1,5 +1,5 @@
 -- The cycles that words ask for are some, and few.
-use Rattle.std.proofs.Common.{◌≡◌, ◌≤◌, ℕ, Bool, true, false, ◌&&◌, nat_le, List, codes, Option, Some, None, refl, arith}
+use Rattle.std.proofs.Common.{◌≡◌, ℕ, Bool, true, false, ◌&&◌, nat_le, List, codes, Option, Some, None, refl, arith}
 use Rattle.std.specs.Prelude.{bytes_eq, is_some, option_and_then, if◌then◌else◌}
 use Rattle.std.proofs.lemmas.Bool.Decides.{nat_tests}
 use Rattle.clap.specs.Walk.{Row, first_of}
@@ -9,7 +9,7 @@ use Rattle.irt_base.specs.declared.limits.TheConstants.{MAX_CYCLES, MAX_DEVICES,
 use Rattle.irt_words.specs.Asked.{as_number, as_number, as_within, asked_of, check_in, command_in, cycles_in, file_in, found_command, free_in, gen_in, is_free_of, number_in, plan_in, run_in, run_seed_in, run_world_in, seed_in, show_in, sync_in}
 use Rattle.irt_words.specs.Commands.{Command, plan, check, show, sync, run, run_world, gen, free}
 use Rattle.irt_words.specs.Grammar.{irt_app}
-use Rattle.irt_words.specs.declared.asked.TheConstants.{MIN_GENERATED, MAX_SEED}
+use Rattle.irt_words.specs.declared.asked.TheConstants.{MIN_GENERATED}
 use Rattle.irt_top.specs.Commands.{HasCycles}
 
 bind_few : {A : Type 0} (o : Option A) (f : A → Option Command) → ((x : A) → HasCycles (f x)) → HasCycles (option_and_then f o)

@@ -1,7 +1,6 @@
 -- How the steps of a run follow each other.
 use Rattle.std.proofs.Common.{◌≡◌, ℕ, List, Option, Some, Result, Ok, Err, inl, refl, sym, ◌∙◌, ap, subst}
 use Rattle.std.specs.Global.{Vec}
-use Rattle.std.specs.Prelude.{IfOk}
 use Rattle.irt_base.specs.Wiring.{peer_of}
 use Rattle.irt_base.specs.declared.blocks.Bundle.{Bundle}
 use Rattle.irt_base.specs.declared.numbers.DevId.{DevId}
@@ -15,7 +14,7 @@ use Rattle.irt_route.specs.declared.fault.RouteFault.TheVariants as faults
 use Rattle.irt_steps.specs.declared.stop.Stop.{Stop}
 use Rattle.irt_steps.specs.declared.stop.Stop.TheVariants as stops
 use Rattle.irt_steps.specs.Follow.{Follows, Decides, IsEnding}
-use Rattle.irt_steps.specs.Steps.{Ending, ending, Steps, asks, judged, Comes}
+use Rattle.irt_steps.specs.Steps.{Ending, ending, asks, judged, Comes}
 use Rattle.irt_world.specs.declared.rows.World.{World}
 use Rattle.plan_check.specs.Settled.{Settled}
 use Rattle.plan_rules.specs.Plan.{IsPlan}
@@ -27,8 +26,8 @@ use Rattle.irt_words.specs.Commands.{command_of}
 use Rattle.irt_words.specs.declared.asked.Asked.{Asked}
 use Rattle.irt_top.specs.Commands.{asked_steps}
 use Rattle.irt_top.specs.Lines.{no_path_line, world_line}
-use Rattle.irt_top.specs.Run.{Walking, no_path, walked, IsWalking, walking_answer, walks_steps, ran_steps, run_plan_steps}
-use Rattle.irt_top.specs.World.{WorldSource, by_seed, source_of, WorldReading, right, wrong, IsWorldReading, reading_answer, reading_steps, world_steps}
+use Rattle.irt_top.specs.Run.{no_path, walked, IsWalking, walking_answer, walks_steps, ran_steps, run_plan_steps}
+use Rattle.irt_top.specs.World.{WorldSource, by_seed, source_of, right, wrong, IsWorldReading, reading_answer, reading_steps, world_steps}
 use Rattle.irt_top.specs.declared.world.WorldAsked.{WorldAsked}
 use Rattle.irt_top.specs.declared.world.WorldAsked.TheVariants as words
 

@@ -6,10 +6,9 @@ use Rattle.irt_base.specs.declared.blocks.Bundle.{Bundle}
 use Rattle.irt_base.specs.declared.numbers.PortNo.{PortNo}
 use Rattle.irt_base.specs.declared.plants.Plant.{Plant}
 use Rattle.irt_route.specs.Routes.{AreTrafficWalks, IsFirstCutTraffic}
-use Rattle.irt_steps.specs.Steps.{IsOneWay, gives}
+use Rattle.irt_steps.specs.Steps.{IsOneWay}
 use Rattle.irt_steps.proofs.OneWay.{judged_one, after_one}
 use Rattle.irt_world.specs.declared.rows.World.{World}
-use Rattle.plan_rules.specs.Places.{IsAccepted}
 use Rattle.plan_rules.specs.Plan.{IsPlan}
 use Rattle.plan_run.specs.Run.{IsRunText}
 use Rattle.plan_run.specs.Size.{is_too_long}
@@ -20,7 +19,7 @@ use Rattle.irt_top.specs.DeviceFiles.{bundles_steps}
 use Rattle.irt_top.specs.PlantFile.{plant_answer, plant_steps}
 use Rattle.irt_topo.specs.Reading.{plant_of}
 use Rattle.irt_top.specs.Run.{accepted_answer, accepted_steps, Walking, no_path, walked, IsWalking, walking_answer, walks_steps, size_answer, size_steps, record_steps, sized_steps, walked_steps, ran_steps, run_plan_steps, run_plant_steps, run_steps}
-use Rattle.irt_top.specs.World.{WorldSource, by_seed, by_file, WorldReading, right, wrong, IsWorldReading, reading_answer, reading_steps, world_steps}
+use Rattle.irt_top.specs.World.{WorldSource, by_seed, by_file, WorldReading, right, wrong, IsWorldReading, reading_answer, world_steps}
 use Rattle.irt_top.proofs.CheckOne.{check_one, bundles_one}
 
 -- a run has one text, a seed one world, traffic one list of walks, and a world file is one world's or wrong at one place

@@ -1,9 +1,7 @@
 -- What `run` prints is the text of a safe run.
-use Rattle.std.proofs.Common.{◌≡◌, ◌≤◌, inl, inr, ℕ, List, length, Option, Some, None, refl, sym, ◌∙◌, ap, subst, arith}
+use Rattle.std.proofs.Common.{◌≡◌, ◌≤◌, inl, inr, ℕ, List, length, Option, Some, None, sym, ◌∙◌, ap, subst, arith}
 use Rattle.std.proofs.lemmas.Option.{none-some, same_Some}
-use Rattle.irt_base.specs.Valid.{IsWithin}
 use Rattle.irt_base.specs.declared.blocks.Bundle.{Bundle}
-use Rattle.irt_base.specs.declared.limits.TheConstants.{MAX_CYCLES}
 use Rattle.irt_base.specs.declared.numbers.PortNo.{PortNo}
 use Rattle.irt_base.specs.declared.plants.Plant.{Plant}
 use Rattle.irt_io.specs.Files.{Files}

@@ -1,8 +1,7 @@
 -- What `sync` came by, and that it comes to one thing.
-use Rattle.std.proofs.Common.{◌≡◌, ◌<◌, inl, inr, ℕ, List, [], ◌∷◌, Option, Some, None, Result, Ok, Err, IfErr, refl, sym, ◌∙◌, ap, subst, arith}
+use Rattle.std.proofs.Common.{◌≡◌, inl, inr, ℕ, List, Option, Result, Ok, Err, IfErr, refl, sym, ◌∙◌, ap, subst}
 use Rattle.std.proofs.lemmas.Bool.{cases_order}
 use Rattle.std.specs.Global.{Vec}
-use Rattle.irt_base.specs.declared.limits.TheConstants.{PLANT_FILE}
 use Rattle.irt_base.specs.declared.plants.Plant.{Plant}
 use Rattle.irt_io.specs.Files.{Files}
 use Rattle.irt_route.specs.Clocks.{ClockTable, IsClockTreeOf}

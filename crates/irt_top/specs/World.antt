@@ -1,5 +1,5 @@
 -- The world of a run: how the words ask for it, and the steps that bring it.
-use Rattle.std.specs.Prelude.{◌≡◌, ℕ, List, Option, Result, Ok, Err}
+use Rattle.std.specs.Prelude.{ℕ, List, Option, Result, Ok, Err}
 use Rattle.irt_base.specs.declared.blocks.Bundle.{Bundle}
 use Rattle.irt_base.specs.declared.limits.TheConstants.{WORLD_FILE}
 use Rattle.irt_base.specs.declared.plants.Plant.{Plant}

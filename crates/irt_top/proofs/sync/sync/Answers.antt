@@ -4,7 +4,6 @@ use Rattle.std.specs.Prelude.{ℕ}
 use Rattle.irt_steps.proofs.StepLemmas.{follow_on, follow_stop}
 use Rattle.irt_top.specs.PlantFile.{plant_steps}
 use Rattle.irt_top.specs.Sync.{report_steps}
-use Rattle.irt_top.proofs.CheckLemmas.{cause_after}
 use Rattle.irt_top.proofs.SyncLemmas.{calm_cause}
 use Rattle.irt_top.proofs.sync.sync.Goals as goal
 
