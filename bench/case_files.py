@@ -12,6 +12,7 @@ import blocks
 from case_blocks import changed, faults
 from case_plants import DATA, RED, Case
 from case_rules import rules
+from case_runs import runs
 from case_shapes import shapes
 from case_walks import walks
 from case_words import words
@@ -249,10 +250,10 @@ def stored():
 def main():
     shutil.rmtree(DATA, ignore_errors=True)
     DATA.mkdir(parents=True)
-    runs = checks() + malformed() + faults() + rules() + plans() + shown() + walks()
-    runs += clocks() + unread() + stored() + words() + shapes()
-    (DATA / "lines.txt").write_text("".join(f"{line}\n" for line, _, _ in runs))
-    STDOUT.write_text("".join(f"$ irt {line}\n{text}status {status}\n" for line, status, text in runs))
+    cases = checks() + malformed() + faults() + rules() + plans() + shown() + walks()
+    cases += clocks() + unread() + stored() + words() + shapes() + runs()
+    (DATA / "lines.txt").write_text("".join(f"{line}\n" for line, _, _ in cases))
+    STDOUT.write_text("".join(f"$ irt {line}\n{text}status {status}\n" for line, status, text in cases))
 
 
 if __name__ == "__main__":

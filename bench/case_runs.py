@@ -1,0 +1,107 @@
+"""Cases of runs: what frames, parcels, stations and applications do in some cycles of a world.
+
+A hop is 800 ns (100 + 500 + 200), a frame of 40 bytes takes 6720 ns and so does a parcel of 60; cycles are of 1000000 ns.
+"""
+
+from case_plants import DATA, RED, Case
+
+FRAME = (0x100, 0, 1, 1, 0, 2)
+TAKEN = (0x100, 0, 1, 1, 1, 1)
+
+
+def row(n, k, came=True):
+    """Of a frame that starts with the cycle."""
+    begin = k * 1000000
+    text = f"o {k} a{n} 1 0x0100 {begin} {begin + 6720}\n"
+    return text + (f"d {k} b{n} 0x0100 {begin + 7520}\n" if came else "")
+
+
+def one_frame(n, apps=(), traffic=False):
+    case = Case(n).pair().demand(0x100, "a", "b")
+    if traffic:
+        case.traffic("a", "b")
+    for letter, kind in apps:
+        case.text += f'[[app]]\ndevice = "{case.name(letter)}"\nkind = "{kind}"\n'
+    case.save()
+    case.give("a", [FRAME])
+    case.give("b", [TAKEN])
+    return case
+
+
+def world(n, *lines):
+    (DATA / f"w{n}").write_text("".join(f"{line}\n" for line in lines))
+    return f"run p{n}.toml {len(lines)} --world w{n}"
+
+
+def words(*numbers):
+    return "".join(f" {number:016x}" for number in numbers)
+
+
+def counted():
+    """A counter on a, a copy on b; the link is cut in cycle 2. b holds what came last, and takes a turn's output a cycle later."""
+    n = 506
+    one_frame(n, [("a", "counter"), ("b", "copy")])
+    text = ""
+    shown = [(0, 0, 0, 0, 0), (1, 0, 0, 0, 0x80), (1, 0, 0, 0, 0x80)]
+    for k in range(3):
+        out = (k, 0, 0, 0, 0x80 if k else 0)
+        text += f"g {k} a{n} {k} {int(k > 0)} 1{words(*out)}\ng {k} b{n} {k} {int(k > 0)} 1\n"
+        text += row(n, k, k != 2) + f"i {k} a{n}\ni {k} b{n}{words(*shown[k])}\n"
+    for turn in range(3):
+        text += f"u a{n} {turn} {turn + 1} {turn + 1} 1 1 :{words(turn + 1, 0, 0, 0, 0x80)}\n"
+    for turn in range(3):
+        text += f"u b{n} {turn} {turn + 1} {turn + 1} 1 1{words(*shown[turn])} :\n"
+    return (world(n, "E 0 0 B C", "E 0 0 B C", "E 0 0 B C 0"), 0, text + "end 3 3 2 0\n")
+
+
+def too_long():
+    case = Case(507).pair()
+    for frame in range(4):
+        ends = "ab" if frame < 2 else "ba"
+        case.demand(0x100 + frame, ends[0], ends[1], length=1440)
+    for letter in "ab":
+        case.text += f'[[app]]\ndevice = "{case.name(letter)}"\nkind = "copy"\n'
+    case.save()
+    own = [(0x100 + 0, 0), (0x100 + 1, 118720)]
+    for letter, first in (("a", 0), ("b", 2)):
+        entries = [(0x100 + first + i, at, 1, 1, 0, 2, 1440) for i, (_, at) in enumerate(own)]
+        entries += [(0x100 + 2 - first + i, 0, 1, 1, 1, 1, 1440) for i in range(2)]
+        case.give(letter, sorted(entries))
+    return [("run p507.toml 10000 1", 11, "run too long\n")]
+
+
+def parcels():
+    """One orange parcel a cycle, behind red; in cycle 1 the link is cut."""
+    n = 508
+    one_frame(n, traffic=True)
+    text = row(n, 0) + f"t 0 a{n} 1 0 0 {RED} {RED + 6720}\n"
+    text += row(n, 1, False) + f"t 1 a{n} 1 0 1 {1000000 + RED} {1000000 + RED + 6720}\nl 1 a{n} 1 0 1\na 1 b{n} 0 0\n"
+    text += row(n, 2) + f"t 2 a{n} 1 0 2 {2000000 + RED} {2000000 + RED + 6720}\n"
+    return (world(n, "E 0 0 B C", "E 0 0 B C 0", "E 0 0 B C"), 0, text + "end 3 3 2 0\n")
+
+
+def no_path():
+    case = Case(509).head().device("a").device("b").device("c").link("a", 1, "b", 1)
+    case.demand(0x100, "a", "b").traffic("a", "c").save()
+    case.give("a", [FRAME])
+    case.give("b", [TAKEN])
+    case.give("c", [])
+    return [("run p509.toml 5 1", 6, "no path 0\n")]
+
+
+def runs():
+    case = Case(500).pair().save()
+    case.give("a", [])
+    case.give("b", [])
+    made = [("run p500.toml 5 1", 0, "end 5 0 0 0\n")]
+    for n in (501, 502, 503, 504):
+        one_frame(n)
+    made.append((world(501, "E 0 0 B C", "E 0 0 B C 0"), 0, row(501, 0) + row(501, 1, False) + "end 2 2 1 0\n"))
+    # b is out of step, and then a is
+    made.append((world(502, "E 0 1001 B C"), 0, row(502, 0, False) + "x 0 b502 0x0100 step\nend 1 1 0 1\n"))
+    made.append((world(503, "E 1001 0 B C"), 0, "end 1 0 0 0\n"))
+    made.append((world(504, "E 0 0 B C", "E 0 1000001 B C"), 10, "world 2 2\n"))
+    made.append(("run p504.toml 3 --world w501", 10, "world 3 0\n"))
+    made.append(("run p504.toml 2 --world none.w", 3, "absent none.w\n"))
+    made.append(("run p2.toml 2 1", 8, "REJECT V6 a2 1 0x0100 0x0101\n"))
+    return made + [counted()] + too_long() + [parcels()] + no_path()
