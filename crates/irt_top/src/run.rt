@@ -164,12 +164,7 @@ fn run_walked<R: Threads + Sync, S: Shelf>(
 }
 
 /// Ends the command where the run is too long.
-fn fit_size(
-    alloc: Global,
-    accepted: &Accepted,
-    routes: &Routes,
-    cycles: u32,
-) -> Result<(), Stop>
+fn fit_size(alloc: Global, accepted: &Accepted, routes: &Routes, cycles: u32) -> Result<(), Stop>
     requires routes { IsRoutesOf accepted.now.plant routes.now }
     requires cycles { cycles ≤ MAX_CYCLES }
     ensures step { Decides (λ u. u) (size_steps accepted.now.plant accepted.now.bundles routes.now.walks cycles) result }

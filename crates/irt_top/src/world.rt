@@ -51,12 +51,7 @@ pub fn world_of<S: Shelf>(
 }
 
 /// The world of a seed.
-fn world_by_seed(
-    alloc: Global,
-    accepted: &Accepted,
-    cycles: u32,
-    seed: u64,
-) -> Result<World, Stop>
+fn world_by_seed(alloc: Global, accepted: &Accepted, cycles: u32, seed: u64) -> Result<World, Stop>
     requires { cycles ≤ MAX_CYCLES }
     ensures step { Decides (λ w. w) (world_steps (by_seed seed) accepted.now.plant accepted.now.bundles cycles) result }
     ensures fits { IfOk result (Fits accepted.now.plant accepted.now.bundles) }
@@ -88,12 +83,7 @@ fn load_world<S: Shelf>(
 }
 
 /// The world whose text the bytes are.
-fn world_in(
-    alloc: Global,
-    accepted: &Accepted,
-    cycles: u32,
-    bytes: &[u8],
-) -> Result<World, Stop>
+fn world_in(alloc: Global, accepted: &Accepted, cycles: u32, bytes: &[u8]) -> Result<World, Stop>
     requires { cycles ≤ MAX_CYCLES }
     ensures step { Decides (λ w. w) (reading_steps accepted.now.plant accepted.now.bundles cycles bytes.now) result }
     ensures fits { IfOk result (Fits accepted.now.plant accepted.now.bundles) }

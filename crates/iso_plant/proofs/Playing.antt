@@ -35,7 +35,7 @@ stays_played : (world : List WorldRow) (taken : ℕ → ℕ → List ℕ) (k : �
     new.bundles ≡ old.bundles → new.consumers ≡ old.consumers → HavePlayed world taken k old → HavePlayed world taken k new
 stays_played world taken k old new plant bundles consumers was =
     let so : Plant → List Bundle → List ConsumerState → Type 0 =
-        λ p b c. HavePlayed world taken k (record { plant = p; bundles = b; consumers = c; frames = new.frames }) in
+    λ p b c. HavePlayed world taken k (record { plant = p; bundles = b; consumers = c; frames = new.frames }) in
     let start : so old.plant old.bundles old.consumers = record { count = was.count; each = was.each } in
     subst (λ c. so new.plant new.bundles c) (sym consumers)
     (subst (λ b. so new.plant b old.consumers) (sym bundles) (subst (λ p. so p old.bundles old.consumers) (sym plant) start))
@@ -46,7 +46,7 @@ is_due : (plant : Plant) (bundles : List Bundle) → IsPlan plant bundles → (w
     IsDueFrame (setup_of plant bundles) k d.frame.0 d
 is_due plant bundles plan world k device number d at reaches =
     let found = key_found same_frame (λ (x : Demand). x.frame.0) (λ x y is. eq-eqb x.frame.0 y.frame.0 is) plant.demands plan.rules.frames_differ
-            number d.frame.0 d at refl in
+    number d.frame.0 d at refl in
     subst (IsDueFrame (setup_of plant bundles) k d.frame.0) (same_Some reaches.demand d (sym reaches.due.demanded ∙ found)) reaches.due
 
 module _ (k : ℕ) (row : Row) (outputs images : List (List ℕ)) (net : NetState) (old new : StationsState) (space : ℕ)

@@ -36,7 +36,7 @@ module _ (old : List AppCycles) (images : List (List ℕ)) (before : EndsView) w
       PublishesAll old new images before now
   all_published new now end past to =
       let below : (n : ℕ) (image : List ℕ) → slice_get images n ≡ Some image → n < end =
-          λ n image at. omega (arith, slice_get_within images n image at, past) in
+      λ n image at. omega (arith, slice_get_within images n image at, past) in
       record {
         count = to.count;
         histories = λ n a image there at. to.histories n a image (below n image at) there at;

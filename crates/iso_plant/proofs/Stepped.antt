@@ -74,8 +74,8 @@ module _ (p : Parts) (state : IsState p) (before : EndsView) (below : p.done < l
     (switches : List SwitchState) (flight : List Handed) (came : List Came) (stations : StationsState) (journal : Written)
     (images : List (List ℕ)) (goes : GoesOn p.done p.net (moved p.net switches flight came) stations p.journal journal images)
     (played : (world : List WorldRow) (taken : ℕ → ℕ → List ℕ) (loads : Loads) →
-        IsCycleOf world taken loads p.done row sent p.net p.stations →
-        HasPlayed world taken loads p.done p.net (moved p.net switches flight came) stations p.journal journal images)
+    IsCycleOf world taken loads p.done row sent p.net p.stations →
+    HasPlayed world taken loads p.done p.net (moved p.net switches flight came) stations p.journal journal images)
     (logs : List AppCycles) (after : EndsView) (publishes : PublishesAll took logs images during after) where
   abbrev pub next : Parts
   next = record {
@@ -112,7 +112,7 @@ module _ (p : Parts) (state : IsState p) (before : EndsView) (below : p.done < l
       let within = slice_get_within logs n c at in
       let (a, there) = some_at p.histories n (omega (arith, within, logs_count, histories_count p state)) in
       let (image, given) = some_at images n (let count = (can_publish p state before below serves fresh took sent during takes _ _ _ _ goes).count in
-              omega (arith, within, count, publishes.count)) in
+      omega (arith, within, count, publishes.count)) in
       record {
         old = a;
         there = there;
@@ -183,7 +183,7 @@ module _ (p : Parts) (state : IsState p) (before : EndsView) (below : p.done < l
             past (net_setup p.net) (rows_of p) (rows_of p) (words_taken (takes_in p.histories)) (words_taken (takes_in logs)) app.device.0 k image
             (λ j up. refl)
             (λ j number up.
-                taken_before p state before below serves fresh took sent during takes number j (omega (arith, up, short)) ∙ taken_after number j)
+            taken_before p state before below serves fresh took sent during takes number j (omega (arith, up, short)) ∙ taken_after number j)
             (state.replay.images n k app image at first)
         | inr last ↦
             past (net_setup p.net) (rows_of p) (rows_of p) taken (words_taken (takes_in logs)) app.device.0 k image (λ j up. refl)
@@ -300,9 +300,9 @@ pub is_next : (p : Parts) (state : IsState p) (before : EndsView) (below : p.don
 is_next p state before below serves fresh took sent during takes rests ranges past row stands net stations journal images goes played logs after publishes =
     subst
     (λ n. GoesOn p.done p.net n stations p.journal journal images →
-        ((world : List WorldRow) (taken : ℕ → ℕ → List ℕ) (loads : Loads) → IsCycleOf world taken loads p.done row sent p.net p.stations →
-        HasPlayed world taken loads p.done p.net n stations p.journal journal images) →
-        IsNext p (parts_after p n stations journal sent images logs) before after)
+    ((world : List WorldRow) (taken : ℕ → ℕ → List ℕ) (loads : Loads) → IsCycleOf world taken loads p.done row sent p.net p.stations →
+    HasPlayed world taken loads p.done p.net n stations p.journal journal images) →
+    IsNext p (parts_after p n stations journal sent images logs) before after)
     (moved_is p.net net goes.same)
     (λ on has. record {
       holds = next_state p state before below serves fresh took sent during takes rests ranges past row stands net.switches net.flight net.came

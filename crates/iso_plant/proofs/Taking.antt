@@ -58,7 +58,7 @@ module _ (apps : List App) (old : List AppCycles) (sent : List (List ℕ)) (befo
       TakenTo new outputs now end → TakesAll apps old new sent outputs before now
   all_taken new outputs now end ready past to =
       let old_below : (n : ℕ) (a : AppCycles) → slice_get old n ≡ Some a → n < end =
-          λ n a at. omega (arith, slice_get_within old n a at, ready.count, past) in
+      λ n a at. omega (arith, slice_get_within old n a at, ready.count, past) in
       record {
         count = to.count;
         histories = λ n a at. to.histories n a (old_below n a at) at;

@@ -39,8 +39,7 @@ module _ (p : Parts) (state : IsState p) (old : PlantView) (view_is : view_of p 
 
   pub lists_are : (n : ℕ) (a : AppCycles) → slice_get apps n ≡ Some a → (a.takes ≡ takes_of n old) × (a.images ≡ images_of n old)
   lists_are n a at =
-      let there : slice_get p.histories n ≡ Some a = ap (λ list. slice_get list n) (sym are) ∙ at in
-      (
+      let there : slice_get p.histories n ≡ Some a = ap (λ list. slice_get list n) (sym are) ∙ at in (
         sym (read_map (λ (x : AppCycles). x.takes) p.histories n a [] there) ∙ ap (takes_of n) view_is,
         sym (read_map (λ (x : AppCycles). x.images) p.histories n a [] there) ∙ ap (images_of n) view_is,
       )

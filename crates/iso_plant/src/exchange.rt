@@ -28,7 +28,11 @@ pub(crate) fn take_all<E: Ends>(
 }
 
 /// Publishes its image to each app. It takes no memory.
-pub(crate) fn publish_all<E: Ends>(histories: &mut [AppHistory], images: &[Items<u64>], ends: &mut E)
+pub(crate) fn publish_all<E: Ends>(
+    histories: &mut [AppHistory],
+    images: &[Items<u64>],
+    ends: &mut E,
+)
     requires { CanPublish histories.old images.now
         (ends_of E.apps E.output_words E.input_words E.offers E.takes E.published ends.old) }
     ensures { PublishesAll histories.old histories.new images.now

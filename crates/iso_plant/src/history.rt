@@ -59,12 +59,12 @@ impl AppHistory {
         cycles: usize,
     ) -> Result<AppHistory, NoMemory>
         ensures { IfOk result (λ h. h ≡ record {
-            takes = [];
-            images = [];
-            output_words = output_words;
-            input_words = input_words;
-            take_room = cycles;
-            image_room = cycles;
+          takes = [];
+          images = [];
+          output_words = output_words;
+          input_words = input_words;
+          take_room = cycles;
+          image_room = cycles;
         }) }
     {
         Ok(AppHistory {

@@ -65,7 +65,10 @@ pub(crate) fn zero_outputs(alloc: Global, bundles: &[Bundle]) -> Result<Vec<Item
 }
 
 /// Of each app, zeros as what was published last.
-pub(crate) fn zero_images(alloc: Global, histories: &[AppHistory]) -> Result<Vec<Items<u64>>, NoMemory>
+pub(crate) fn zero_images(
+    alloc: Global,
+    histories: &[AppHistory],
+) -> Result<Vec<Items<u64>>, NoMemory>
     ensures { IfOk result (λ v. v.items ≡ map zero_image histories.now) }
 {
     let mut images = Vec::with_capacity(alloc, histories.len())?;

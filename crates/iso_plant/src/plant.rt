@@ -89,7 +89,12 @@ impl PlantState {
     ///
     /// # Errors
     /// `NoMemory` where memory runs out.
-    pub fn new(alloc: Global, accepted: &Accepted, routes: &Routes, world: World) -> Result<PlantState, NoMemory>
+    pub fn new(
+        alloc: Global,
+        accepted: &Accepted,
+        routes: &Routes,
+        world: World,
+    ) -> Result<PlantState, NoMemory>
         requires routes { IsRoutesOf accepted.now.plant routes.now }
         requires world { Fits accepted.now.plant accepted.now.bundles world }
         requires cycles { length world.rows ≤ MAX_CYCLES }
@@ -106,7 +111,12 @@ impl PlantState {
         net.reserve(&mut journal, world.rows.len() as u32)?;
         stations_fit_exchanges();
         let apps = accepted.plant().apps.try_copy(alloc)?;
-        let histories = new_histories(alloc, accepted.plant(), accepted.bundles(), world.rows.len())?;
+        let histories = new_histories(
+            alloc,
+            accepted.plant(),
+            accepted.bundles(),
+            world.rows.len(),
+        )?;
         let outputs = zero_outputs(alloc, accepted.bundles())?;
         let images = zero_images(alloc, histories.as_slice())?;
         Ok(PlantState {
@@ -188,7 +198,11 @@ impl PlantState {
         ensures journal { result.journal ≡ self.rows }
         ensures replay { IsReplay self }
     {
-        let PlantState { histories, journal, .. } = self;
+        let PlantState {
+            histories,
+            journal,
+            ..
+        } = self;
         History {
             apps: Items::from_vec(histories),
             journal: journal.into_rows(),

@@ -12,7 +12,6 @@ ghost use Rattle.net_parcels.specs.Parcels.{IsMadeFor, HaveWalks, AllHaveOpened,
 
 use crate::notes::Notes;
 use crate::opening::{made_at_most, rows_by_steps, walk_steps};
-
 use crate::outlets::{Outlet, outlets};
 use crate::playing::play;
 use irt_base::list::Items;

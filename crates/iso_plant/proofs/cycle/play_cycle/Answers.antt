@@ -24,7 +24,7 @@ returns-clause-played c world taken loads is =
     let was = still_played _ _ _ _ _ _ c.load.new.self _ ready c.load.ensures.plant.0 c.load.ensures.plant.1 c.load.ensures.frames c.load.ensures.consumers world taken is.played in
     let loaded = is_loaded _ _ _ _ _ _ c.load.new.self _ ready c.load.ensures.plant.0 c.load.ensures.plant.1 c.load.ensures.frames c.load.ensures.consumers world taken is.sent in
     let come = have_come _ _ _ _ _ _ c.load.new.self _ ready c.load.ensures.plant.0 c.load.ensures.plant.1 c.load.ensures.frames c.load.ensures.consumers world taken
-            _ _ c.came.ensures rows.came in
+    _ _ c.came.ensures rows.came in
     record {
       rows = rows;
       played = c.end_cycle.ensures.played world taken was loaded come;

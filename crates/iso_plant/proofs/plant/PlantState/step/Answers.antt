@@ -29,9 +29,9 @@ invariant_of-self g c =
     let shown = kept _ _ _ _ c.as_slice-3.result.now c.self.inside.images.ok.0 c.as_mut_slice-3.ensures.value c.play_cycle.auto.images c.as_slice-3.ensures.value in
     let many = c.publish_all.ensures.count ∙ ap length took ∙ c.take_all.ensures.count ∙ ap length c.as_mut_slice.ensures.value ∙ sym c.self.inside.histories.ok.0 in
     let next = next_of _ c.self.invariant _ c.self.view_is _ c.requires.open c.requires.ends c.requires.fresh _ c.as_slice.ensures _ c.as_mut_slice.ensures.value _ c.as_mut_slice-2.ensures.value
-            c.stations_rest_on_done_cycles.ensures c.fitting_worlds_are_in_range.ensures _ _ _ c.take_all.ensures _ _ c.deref.ensures c.index-deref-k.is _ sent
-            _ _ _ _ c.play_cycle.ensures.goes_on _ took _ shown c.images_rest_on_recent_cycles.ensures.past c.play_cycle.ensures.played
-            _ _ c.publish_all.ensures _ _ _ (written_over _ c.publish_all.new.histories _ many) (sym c.as_slice-2.ensures.value) (sym c.as_slice-3.ensures.value) in
+    c.stations_rest_on_done_cycles.ensures c.fitting_worlds_are_in_range.ensures _ _ _ c.take_all.ensures _ _ c.deref.ensures c.index-deref-k.is _ sent
+    _ _ _ _ c.play_cycle.ensures.goes_on _ took _ shown c.images_rest_on_recent_cycles.ensures.past c.play_cycle.ensures.played
+    _ _ c.publish_all.ensures _ _ _ (written_over _ c.publish_all.new.histories _ many) (sym c.as_slice-2.ensures.value) (sym c.as_slice-3.ensures.value) in
     next.holds
 
 pub returns : goal.returns
@@ -41,7 +41,7 @@ returns g c =
     let shown = kept _ _ _ _ c.as_slice-3.result.now c.self.inside.images.ok.0 c.as_mut_slice-3.ensures.value c.play_cycle.auto.images c.as_slice-3.ensures.value in
     let many = c.publish_all.ensures.count ∙ ap length took ∙ c.take_all.ensures.count ∙ ap length c.as_mut_slice.ensures.value ∙ sym c.self.inside.histories.ok.0 in
     let next = next_of _ c.self.invariant _ c.self.view_is _ c.requires.open c.requires.ends c.requires.fresh _ c.as_slice.ensures _ c.as_mut_slice.ensures.value _ c.as_mut_slice-2.ensures.value
-            c.stations_rest_on_done_cycles.ensures c.fitting_worlds_are_in_range.ensures _ _ _ c.take_all.ensures _ _ c.deref.ensures c.index-deref-k.is _ sent
-            _ _ _ _ c.play_cycle.ensures.goes_on _ took _ shown c.images_rest_on_recent_cycles.ensures.past c.play_cycle.ensures.played
-            _ _ c.publish_all.ensures _ _ _ (written_over _ c.publish_all.new.histories _ many) (sym c.as_slice-2.ensures.value) (sym c.as_slice-3.ensures.value) in
+    c.stations_rest_on_done_cycles.ensures c.fitting_worlds_are_in_range.ensures _ _ _ c.take_all.ensures _ _ c.deref.ensures c.index-deref-k.is _ sent
+    _ _ _ _ c.play_cycle.ensures.goes_on _ took _ shown c.images_rest_on_recent_cycles.ensures.past c.play_cycle.ensures.played
+    _ _ c.publish_all.ensures _ _ _ (written_over _ c.publish_all.new.histories _ many) (sym c.as_slice-2.ensures.value) (sym c.as_slice-3.ensures.value) in
     steps_from _ _ _ _ _ c.self.view_is next.steps
