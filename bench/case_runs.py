@@ -80,6 +80,56 @@ def parcels():
     return (world(n, "E 0 0 B C", "E 0 0 B C 0", "E 0 0 B C"), 0, text + "end 3 3 2 0\n")
 
 
+def sent(n, k, parcels):
+    """Orange parcels of a, one behind the other; each is a traffic entry and a serial."""
+    begin = k * 1000000 + RED
+    times = [(begin + 6720 * place, begin + 6720 * (place + 1)) for place in range(len(parcels))]
+    return "".join(f"t {k} a{n} 1 {entry} {serial} {at} {end}\n" for (entry, serial), (at, end) in zip(parcels, times))
+
+
+def many(n, entries):
+    """Traffic entries of eight parcels a cycle each."""
+    case = Case(n).pair().demand(0x100, "a", "b")
+    for _ in range(entries):
+        case.traffic("a", "b")
+    case.text = case.text.replace("count = 1", "count = 8")
+    case.save()
+    case.give("a", [FRAME])
+    case.give("b", [TAKEN])
+
+
+def full():
+    """A port has room for 32 parcels of a class; the 33rd and all behind it are refused."""
+    many(510, 5)
+    text = row(510, 0) + sent(510, 0, [(entry, serial) for entry in range(4) for serial in range(8)])
+    text += "".join(f"q 0 a510 1 4 {serial}\n" for serial in range(8))
+    return (world(510, "E 0 0 B C"), 0, text + "end 1 1 1 0\n")
+
+
+def drained():
+    """Parcels wait while a is out of step, and then 32 go in one cycle, more than four cycles make rows for."""
+    many(511, 1)
+    text = row(511, 3) + sent(511, 3, [(0, serial) for serial in range(32)])
+    text += row(511, 4) + sent(511, 4, [(0, serial) for serial in range(32, 40)])
+    text += "".join(f"a 4 b511 0 {serial}\n" for serial in range(32))
+    return (world(511, "E 1001 0 B C", "E 1001 0 B C", "E 1001 0 B C", "E 0 0 B C", "E 0 0 B C"), 0, text + "end 5 2 2 0\n")
+
+
+def cut_in_the_middle():
+    """A frame over a switch: whole, cut behind the switch, and cut before it."""
+    case = Case(512).line().demand(0x100, "a", "b").save()
+    case.give("a", [FRAME])
+    case.give("s", [(0x100, 5800, 1, 1, 1, 4)])
+    case.give("b", [TAKEN])
+    text = ""
+    for k, (goes_on, comes) in enumerate(((True, True), (True, False), (False, False))):
+        begin = k * 1000000
+        text += f"o {k} a512 1 0x0100 {begin} {begin + 6720}\n"
+        text += f"o {k} s512 2 0x0100 {begin + 5800} {begin + 12520}\n" if goes_on else ""
+        text += f"d {k} b512 0x0100 {begin + 13320}\n" if comes else ""
+    return (world(512, "E 0 0 0 B C", "E 0 0 0 B C 1", "E 0 0 0 B C 0"), 0, text + "end 3 5 1 0\n")
+
+
 def no_path():
     case = Case(509).head().device("a").device("b").device("c").link("a", 1, "b", 1)
     case.demand(0x100, "a", "b").traffic("a", "c").save()
@@ -104,4 +154,4 @@ def runs():
     made.append(("run p504.toml 3 --world w501", 10, "world 3 0\n"))
     made.append(("run p504.toml 2 --world none.w", 3, "absent none.w\n"))
     made.append(("run p2.toml 2 1", 8, "REJECT V6 a2 1 0x0100 0x0101\n"))
-    return made + [counted()] + too_long() + [parcels()] + no_path()
+    return made + [counted()] + too_long() + [parcels(), full(), drained(), cut_in_the_middle()] + no_path()
