@@ -1,0 +1,2 @@
+pub mod TakeLists
+pub mod Recorded
