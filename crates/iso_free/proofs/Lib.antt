@@ -1,0 +1,3 @@
+pub mod Begin
+pub mod Legality
+pub mod Openings

@@ -1,0 +1,4 @@
+pub mod Opened
+pub mod Begun
+pub mod Started
+pub mod Record
