@@ -1,17 +1,18 @@
 -- What is under the lock stays tied.
 use Rattle.std.specs.Prelude.{Option, IsTrue, true, false, if◌then◌else◌}
-use Rattle.std.proofs.Common.{◌≡◌, ℕ, ◌+◌, ◌<◌, Bool, List, [], ◌∷◌, ◌++◌, length, map, sym, ap, ◌∙◌, subst, arith}
+use Rattle.std.proofs.Common.{◌≡◌, ℕ, ◌+◌, ◌<◌, ◌≤◌, Bool, List, [], ◌∷◌, ◌++◌, length, map, refl, sym, ap, ◌∙◌, subst, arith}
 use Rattle.std.proofs.lemmas.List.{length-map, map-append}
 use Rattle.io_buffers.specs.Given.{Given, given}
+use Rattle.irt_base.specs.declared.limits.TheConstants.{MAX_CYCLES}
 use Rattle.iso_plant.specs.Replay.{IsReplay, PlantView, images_of, takes_of}
 use Rattle.iso_plant.specs.Step.{EndsView, ServesPlant, Steps}
 use Rattle.iso_rules.specs.Station.{input_count, output_count}
 use Rattle.free_plant.specs.Buffers.{BufferView, buffer_at, published_to, takes_from, whole_take}
-use Rattle.free_plant.specs.Named.{IsOfRun, app_count}
+use Rattle.free_plant.specs.Named.{IsOfRun, app_count, cycles_of}
 use Rattle.free_plant.specs.Publishing.{HavePublished}
 use Rattle.free_plant.specs.Taking.{HaveTaken}
 use Rattle.free_plant.specs.Ties.{HasWidths, IsLocked, IsReady, IsTied}
-use Rattle.free_plant.specs.Views.{PortView, port_at, with_image, with_takes}
+use Rattle.free_plant.specs.Views.{PortView, new_port, port_at, with_image, with_takes}
 use Rattle.free_plant.proofs.ByName.{got_below, run_app, run_count, run_step}
 use Rattle.take_lists.specs.Takes.{AreFresh, AreSomeOf, IsNearTake, without_further}
 use Rattle.take_lists.proofs.Recorded.{front_snoc}
@@ -136,3 +137,34 @@ locked_step start v w old mid new first before after cycles all l replay h fits 
       widths = λ app lt. (
           let b = h.widths app (omega arith) in record { output = s.output_words app ∙ b.output; input = s.input_words app ∙ b.input });
     }
+
+none_of : {X : Type 0} (xs : List X) → length xs ≡ 0 → xs ≡ []
+none_of [] none = refl
+none_of (x ∷ xs) none = absurd (omega arith)
+
+tied_first : (v : PlantView) (app : ℕ) (p : PortView) → p ≡ new_port app → takes_of app v ≡ [] → images_of app v ≡ [] → IsTied v app p
+tied_first v app p is takes images = subst (λ (q : PortView). IsTied v app q) (sym is) (record {
+  place = refl;
+  whole = [];
+  recorded = takes;
+  takes = tt;
+  fresh = refl;
+  near = tt;
+  images = sym images;
+})
+
+pub locked_first : (start : Option PlantView) (v : PlantView) (ports : List PortView) (buffers : List BufferView) (cycles : ℕ) → IsOfRun start v → v.done ≡ 0 → IsReplay v
+    → cycles ≡ cycles_of start → cycles ≤ MAX_CYCLES → length ports ≡ app_count start → ((app : ℕ) → app < length ports → port_at ports app ≡ new_port app)
+    → length buffers ≡ app_count start → ((app : ℕ) → app < length buffers → HasWidths start app (buffer_at buffers app)) → IsLocked start v ports buffers cycles
+locked_first start v ports buffers cycles run begun replay cycles_are few ports_count each buffers_count widths = record {
+  run = run;
+  cycles_are = cycles_are;
+  few = few;
+  ports_count = ports_count;
+  buffers_count = buffers_count;
+  tied = λ app lt. (
+    let count = run_count start v run in
+    let below : app < length v.plant.apps = omega arith in
+    tied_first v app (port_at ports app) (each app lt) (none_of (takes_of app v) (replay.cycles.taken app below ∙ begun)) (none_of (images_of app v) (replay.cycles.published app below ∙ begun)));
+  widths = widths;
+}

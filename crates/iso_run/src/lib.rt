@@ -5,7 +5,7 @@ mod apps;
 mod closing;
 mod cycle;
 mod ends;
-mod lengths;
+pub mod lengths;
 pub mod lockstep;
 mod opening;
 mod turns;
