@@ -1,4 +1,4 @@
-use Rattle.std.proofs.Common.{◌≡◌, ◌∙◌, ap, sym, length}
+use Rattle.std.proofs.Common.{◌≡◌, ◌∙◌, ap, arith, sym, length}
 use Rattle.std.proofs.lemmas.List.{length-map}
 use Rattle.iso_plant.specs.Replay.{PlantView, setup_in, world_in}
 use Rattle.iso_rules.specs.Legal.{IsLegal}
@@ -8,6 +8,12 @@ use Rattle.record_text.specs.declared.record.Record.{Record}
 use Rattle.iso_free.specs.Record.{IsRecordOf}
 use Rattle.iso_free.proofs.Legality.{if_ok, legal_from, named_cycles}
 use Rattle.iso_free.proofs.run.run_named.Goals as goal
+
+pub new-requires-clause-buffers : goal.new-requires-clause-buffers
+new-requires-clause-buffers g c app below =
+    let begun = c.in_ok-wires.ensures {u = tt} in
+    let count = begun.buffers_count in
+    begun.each_buffer app (omega (arith, below, count))
 
 pub returns-clause-cycles : goal.returns-clause-cycles
 returns-clause-cycles g c =
