@@ -163,8 +163,8 @@ locked_first start v ports buffers cycles run begun replay cycles_are few ports_
   ports_count = ports_count;
   buffers_count = buffers_count;
   tied = λ app lt. (
-    let count = run_count start v run in
-    let below : app < length v.plant.apps = omega arith in
-    tied_first v app (port_at ports app) (each app lt) (none_of (takes_of app v) (replay.cycles.taken app below ∙ begun)) (none_of (images_of app v) (replay.cycles.published app below ∙ begun)));
+      let count = run_count start v run in
+      let below : app < length v.plant.apps = omega arith in
+      tied_first v app (port_at ports app) (each app lt) (none_of (takes_of app v) (replay.cycles.taken app below ∙ begun)) (none_of (images_of app v) (replay.cycles.published app below ∙ begun)));
   widths = widths;
 }
