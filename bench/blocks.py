@@ -16,9 +16,9 @@ def sync(letters, factor=32, window=1000, send=32, timeout=6, subdomain=bytes(16
     return block(0x0203, 1, 2, front + bytes([letters]) + b"a" * letters + bytes(3 - letters % 4))
 
 
-def delays(ports, bridge=3000, uuid=bytes(16), sending=100):
-    """The delays of a bridge and of so many ports, which all send in as many ns."""
-    return block(0x0206, 1, 1, struct.pack(">2x16sII", uuid, bridge, ports) + struct.pack(">II", sending, 200) * ports)
+def delays(ports, bridge=3000, uuid=bytes(16), sending=100, receiving=200):
+    """The delays of a bridge and of so many ports, which all send and receive in as many ns."""
+    return block(0x0206, 1, 1, struct.pack(">2x16sII", uuid, bridge, ports) + struct.pack(">II", sending, receiving) * ports)
 
 
 def entry(frame, offset, ratio, phase, receiving, sending, length=40):

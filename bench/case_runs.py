@@ -130,6 +130,19 @@ def cut_in_the_middle():
     return (world(512, "E 0 0 0 B C", "E 0 0 0 B C 1", "E 0 0 0 B C 0"), 0, text + "end 3 5 1 0\n")
 
 
+def at_once():
+    """Ports and links without delay: a frame arrives in the moment in which it starts."""
+    case = Case(513).line().demand(0x100, "a", "b")
+    case.text = case.text.replace("[100, 200]", "[0, 0]").replace("delay = 500", "delay = 0")
+    case.save()
+    delays = dict(sending=0, receiving=0)
+    case.give("a", [FRAME], delays=delays)
+    case.give("s", [(0x100, 5000, 1, 1, 1, 4)], delays=delays)
+    case.give("b", [TAKEN], delays=delays)
+    text = "o 0 a513 1 0x0100 0 6720\no 0 s513 2 0x0100 5000 11720\nd 0 b513 0x0100 11720\n"
+    return (world(513, "E 0 0 0 B C"), 0, text + "end 1 2 1 0\n")
+
+
 def no_path():
     case = Case(509).head().device("a").device("b").device("c").link("a", 1, "b", 1)
     case.demand(0x100, "a", "b").traffic("a", "c").save()
@@ -154,4 +167,4 @@ def runs():
     made.append(("run p504.toml 3 --world w501", 10, "world 3 0\n"))
     made.append(("run p504.toml 2 --world none.w", 3, "absent none.w\n"))
     made.append(("run p2.toml 2 1", 8, "REJECT V6 a2 1 0x0100 0x0101\n"))
-    return made + [counted()] + too_long() + [parcels(), full(), drained(), cut_in_the_middle()] + no_path()
+    return made + [counted()] + too_long() + [parcels(), full(), drained(), cut_in_the_middle(), at_once()] + no_path()
