@@ -1,0 +1,3 @@
+pub mod EachApp
+pub mod Judged
+pub mod Wholeness

@@ -1,0 +1,4 @@
+pub mod Judging
+pub mod Matching
+pub mod Playing
+pub mod Rows
