@@ -1,4 +1,4 @@
--- A run has one text.
+-- A lockstep run has one record, and so one text.
 use Rattle.std.proofs.Common.{◌≡◌, ℕ, List, length, sym, ◌∙◌, ap}
 use Rattle.cycle_rows.specs.Journal.{IsJournal}
 use Rattle.cycle_rows.specs.declared.rows.JournalRow.{JournalRow}
@@ -14,8 +14,9 @@ use Rattle.parcel_rules.specs.Rows.{parcel_rows}
 use Rattle.plan_rules.specs.Plan.{setup_of}
 use Rattle.plan_rules.specs.Way.{Setup}
 use Rattle.plan_rules.specs.World.{WorldRow}
-use Rattle.plan_run.specs.Run.{IsRunText, kinds_of, next_kind}
+use Rattle.plan_run.specs.Run.{in_lockstep, IsRecordOf, IsRunText, kinds_of, next_kind}
 use Rattle.record_text.specs.Text.{record_text, run_of}
+use Rattle.record_text.specs.declared.record.Record.{Record}
 
 -- a lockstep run has one record
 abbrev pub OneRecord : Type 0
@@ -23,13 +24,19 @@ OneRecord = (setup : Setup) (world : List WorldRow) (states : List AppKind) (par
     IsLockstepRecord reply_of next_kind setup world states (IsJournal setup world parcels (length world)) r →
     IsLockstepRecord reply_of next_kind setup world states (IsJournal setup world parcels (length world)) s → r ≡ s
 
+pub one_record : OneRecord → (plant : Plant) (bundles : List Bundle) (walks : List (List PortNo)) (world : World) (r s : Record) →
+    IsRecordOf plant bundles walks world r → IsRecordOf plant bundles walks world s → (r.cycles ≡ s.cycles) × (run_of r ≡ run_of s)
+one_record law plant bundles walks world r s a b =
+    let rows = world_rows plant bundles world in (
+      a.cycles ∙ sym b.cycles,
+      law (setup_of plant bundles) rows (kinds_of plant) (parcel_rows plant bundles walks rows) (run_of r) (run_of s) a.lockstep b.lockstep,
+    )
+
 pub one_text : OneRecord → (plant : Plant) (bundles : List Bundle) (walks : List (List PortNo)) (world : World) (text other : List ℕ) →
-    IsRunText plant bundles walks world text → IsRunText plant bundles walks world other → text ≡ other
+    IsRunText in_lockstep plant bundles walks world text → IsRunText in_lockstep plant bundles walks world other → text ≡ other
 one_text law plant bundles walks world text other a b =
-    let rows = world_rows plant bundles world in
-    let runs : run_of a.log ≡ run_of b.log =
-    law (setup_of plant bundles) rows (kinds_of plant) (parcel_rows plant bundles walks rows) (run_of a.log) (run_of b.log) a.is_record.lockstep b.is_record.lockstep in
+    let (cycles, runs) = one_record law plant bundles walks world a.log b.log a.is_record b.is_record in
     a.says
-    ∙ ap (λ n. record_text plant n (run_of a.log)) (a.is_record.cycles ∙ sym b.is_record.cycles)
+    ∙ ap (λ n. record_text plant n (run_of a.log)) cycles
     ∙ ap (record_text plant b.log.cycles) runs
     ∙ sym b.says

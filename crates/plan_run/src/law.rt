@@ -10,9 +10,10 @@ ghost use Rattle.irt_world.specs.Rows.{Fits};
 ghost use Rattle.irt_world.specs.declared.rows.World.{World};
 ghost use Rattle.plan_rules.specs.Places.{IsAccepted};
 ghost use Rattle.plan_rules.specs.Plan.{IsPlan};
-ghost use Rattle.plan_run.specs.Run.{IsRecordOf, IsRunText};
+ghost use Rattle.plan_run.specs.Run.{IsRecordBy, IsRecordOf, IsRunText, Pace, in_lockstep};
 ghost use Rattle.plan_run.specs.Safe.{IsSafeRun};
 ghost use Rattle.plan_run.specs.World.{IsSeedWorld};
+ghost use Rattle.record_text.specs.Text.{run_of};
 ghost use Rattle.record_text.specs.declared.record.Record.{Record};
 
 use irt_route::laws::fronts_of_best_walks;
@@ -22,21 +23,26 @@ use iso_rules::law::{lockstep_records_are_legal, lockstep_runs_are_one};
 use parcel_rules::law::parcels_of_accepted_plans_are_apart;
 use sync_world::law::ptcp_worlds_are_one;
 
-/// The record of a run of accepted blocks over any world in range is safe.
+/// The record of a run of accepted blocks over any world in range is safe, at either pace.
 pub fn runs_of_accepted_plans_are_safe()
     ensures { (plant : Plant) (bundles : List Bundle) → IsPlan plant bundles → IsAccepted plant bundles →
-        (walks : List (List PortNo)) (world : World) (r : Record) → Fits plant bundles world → 1 ≤ length world.rows →
-        IsRecordOf plant bundles walks world r → IsSafeRun plant bundles walks world r }
+        (pace : Pace) (walks : List (List PortNo)) (world : World) (r : Record) → Fits plant bundles world →
+        1 ≤ length world.rows → IsRecordBy pace plant bundles walks world r →
+        IsSafeRun pace plant bundles walks world r }
 {
     fitting_worlds_are_in_range();
     parcels_of_accepted_plans_are_apart();
     lockstep_records_are_legal::<AppKind>();
 }
 
-/// A run has one text.
+/// A lockstep run has one record, and so one text.
 pub fn run_texts_are_one()
-    ensures { (plant : Plant) (bundles : List Bundle) (walks : List (List PortNo)) (world : World) (text other : List ℕ) →
-        IsRunText plant bundles walks world text → IsRunText plant bundles walks world other → text ≡ other }
+    ensures records { (plant : Plant) (bundles : List Bundle) (walks : List (List PortNo)) (world : World)
+        (r s : Record) → IsRecordOf plant bundles walks world r → IsRecordOf plant bundles walks world s →
+        (r.cycles ≡ s.cycles) × (run_of r ≡ run_of s) }
+    ensures texts { (plant : Plant) (bundles : List Bundle) (walks : List (List PortNo)) (world : World)
+        (text other : List ℕ) → IsRunText in_lockstep plant bundles walks world text →
+        IsRunText in_lockstep plant bundles walks world other → text ≡ other }
 {
     lockstep_runs_are_one::<AppKind>();
 }
