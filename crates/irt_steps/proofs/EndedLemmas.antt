@@ -4,9 +4,9 @@ use Rattle.std.specs.Global.{Vec}
 use Rattle.irt_io.specs.Files.{Files}
 use Rattle.irt_steps.specs.declared.stop.Stop.{Stop}
 use Rattle.irt_steps.specs.declared.stop.Stop.TheVariants as stops
-use Rattle.irt_steps.specs.Steps.{Ending, ending, Steps, ends, IsOneWay}
+use Rattle.irt_steps.specs.Steps.{Ending, ending, Steps, ends}
 use Rattle.irt_steps.specs.Follow.{status_of, Follows, HasCause}
-use Rattle.irt_steps.proofs.OneWay.{comes_one}
+use Rattle.irt_steps.proofs.OneStatus.{HasOneStatus}
 use Rattle.irt_steps.specs.Ended.{ended, Counts, IsOutcome, IsShelfFault, EndsAs, as_stated, shelf_failed, sink_failed, no_memory, no_text, PrintsAs, whole, failed, no_room, FinishesAs}
 
 -- a text of the outcome was printed with its status
@@ -46,12 +46,12 @@ ends_plainly e shelf sink old new before after _ (sink_failed rose text is front
 ends_plainly e shelf sink old new before after _ (no_memory text is front) = inr (inr refl)
 ends_plainly e shelf sink old new before after _ (no_text halts kept) = inr (inr refl)
 
--- where the questions of the steps have one answer, the outcome over files that are told is the only one
+-- where the steps end with one status, that of an outcome over files that are told is the call's
 pub exact_of : (steps : Steps (List ℕ)) (shelf sink : Counts) (files : Files) (new : Option Files) (before after : Option (List ℕ)) (status : ℕ) →
-    EndsAs steps shelf sink (Some files) new before after status → IsOneWay steps → (o : Ending) (end : Option Files) → IsOutcome steps (Some files) end o →
+    EndsAs steps shelf sink (Some files) new before after status → HasOneStatus steps → (o : Ending) (end : Option Files) → IsOutcome steps (Some files) end o →
     (status ≡ o.status) ⊎ (status ≡ 2) ⊎ (status ≡ 12) ⊎ (status ≡ 13)
 exact_of steps shelf sink files new before after _ (as_stated e so appends) one o end is =
-    inl (ap (λ (x : Ending). x.status) (so.is ∙ ap ended (comes_one steps files files new end so.answer is.answer one (λ name. refl) so.comes is.comes) ∙ sym is.is))
+    inl (ap (λ (x : Ending). x.status) so.is ∙ one files files (λ name. refl) new end so.answer is.answer so.comes is.comes ∙ ap (λ (x : Ending). x.status) (sym is.is))
 exact_of steps shelf sink files new before after _ (shelf_failed text so appends) one o end is = inr (inl refl)
 exact_of steps shelf sink files new before after _ (sink_failed rose text so front) one o end is = inr (inr (inl refl))
 exact_of steps shelf sink files new before after _ (no_memory text so front) one o end is = inr (inr (inr refl))

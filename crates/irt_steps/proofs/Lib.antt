@@ -1,4 +1,5 @@
 pub mod EndedLemmas
+pub mod OneStatus
 pub mod OneWay
 pub mod PrintLemmas
 pub mod ShelfLemmas

@@ -1,4 +1,4 @@
--- Steps whose questions have one answer lead to one ending.
+-- Steps whose questions have one answer lead to one ending, and to one shelf.
 use Rattle.std.proofs.Common.{◌≡◌, ◌⊎◌, inl, inr, ℕ, List, Option, Some, None, Result, Ok, Err, refl, sym, ◌∙◌, ap, subst, Bool, true, false}
 use Rattle.std.proofs.lemmas.Slice.Eq.{bytes_eq-Decides}
 use Rattle.std.specs.Str.{bytes_eq}
@@ -8,7 +8,7 @@ use Rattle.irt_steps.proofs.StepLemmas.{held_loads}
 use Rattle.irt_steps.specs.Steps.{Ending, Steps, gives, ends, loads, stores, asks, after, judged, IsHeld, IsUnloaded, missing, too_long, IsStored, Comes, IsOneWay}
 
 -- two shelves that hold the same
-abbrev AreAlike : Files → Files → Type 0
+abbrev pub AreAlike : Files → Files → Type 0
 AreAlike f g = (name : List ℕ) → f name ≡ g name
 
 same_bytes : (f g : Files) (name : List ℕ) (limit : ℕ) (x y : List ℕ) → AreAlike f g → f name ≡ Some x → g name ≡ Some y → x ≡ y
@@ -46,24 +46,33 @@ stored_alike f g m n name bytes alike first second other = elim (decided (bytes_
   | inr differs ↦ first.others other differs ∙ alike other ∙ sym (second.others other differs)
 ]
 
--- steps over files that are alike lead to one ending; no step changes whether the files are told
-pub comes_one : {A : Type 0} (steps : Steps A) (f g : Files) (m n : Option Files) (r s : Result A Ending) → IsOneWay steps → AreAlike f g → Comes steps (Some f) m r → Comes steps (Some g) n s → r ≡ s
-comes_one (gives x) f g m n r s one alike (is, kept) (so, also) = is ∙ sym so
-comes_one (ends e) f g m n r s one alike (is, kept) (so, also) = is ∙ sym so
-comes_one (loads name limit next) f g m n r s one alike (inl (x, held, first)) (inl (y, also, second)) =
+-- both shelves tell their files, and these are alike
+abbrev pub AreToldAlike : Option Files → Option Files → Type 0
+AreToldAlike (Some f) (Some g) = AreAlike f g
+AreToldAlike m n = ⊥
+
+kept_alike : (f g : Files) (m n : Option Files) → AreAlike f g → m ≡ Some f → n ≡ Some g → AreToldAlike m n
+kept_alike f g m n alike kept also = subst (λ x. AreToldAlike x n) (sym kept) (subst (AreToldAlike (Some f)) (sym also) alike)
+
+-- steps over files that are alike lead to one ending, and to files that are alike
+pub comes_alike : {A : Type 0} (steps : Steps A) (f g : Files) (m n : Option Files) (r s : Result A Ending) → IsOneWay steps → AreAlike f g → Comes steps (Some f) m r → Comes steps (Some g) n s →
+    (r ≡ s) × AreToldAlike m n
+comes_alike (gives x) f g m n r s one alike (is, kept) (so, also) = (is ∙ sym so, kept_alike f g m n alike kept also)
+comes_alike (ends e) f g m n r s one alike (is, kept) (so, also) = (is ∙ sym so, kept_alike f g m n alike kept also)
+comes_alike (loads name limit next) f g m n r s one alike (inl (x, held, first)) (inl (y, also, second)) =
     let same : y ≡ x = sym (same_bytes f g name limit x y alike held.held also.held) in
-    comes_one (next x) f g m n r s (one x) alike first (subst (λ b. Comes (next b) (Some g) n s) same second)
-comes_one (loads name limit next) f g m n r s one alike (inl (x, held, first)) (inr (e, why, so, also)) = absurd (held_loads_alike f g name limit x e alike held why)
-comes_one (loads name limit next) f g m n r s one alike (inr (e, why, is, kept)) (inl (y, held, second)) =
+    comes_alike (next x) f g m n r s (one x) alike first (subst (λ b. Comes (next b) (Some g) n s) same second)
+comes_alike (loads name limit next) f g m n r s one alike (inl (x, held, first)) (inr (e, why, so, also)) = absurd (held_loads_alike f g name limit x e alike held why)
+comes_alike (loads name limit next) f g m n r s one alike (inr (e, why, is, kept)) (inl (y, held, second)) =
     absurd (held_loads_alike g f name limit y e (λ other. sym (alike other)) held why)
-comes_one (loads name limit next) f g m n r s one alike (inr (d, why, is, kept)) (inr (e, reason, so, also)) =
-    is ∙ ap Err (unloaded_alike f g name limit d e alike why reason) ∙ sym so
-comes_one (stores name bytes next) f g m n r s one alike (None, stored, first) second = absurd stored.others
-comes_one (stores name bytes next) f g m n r s one alike (Some between, stored, first) (None, again, second) = absurd again.others
-comes_one (stores name bytes next) f g m n r s one alike (Some between, stored, first) (Some middle, again, second) =
-    comes_one next between middle m n r s one (stored_alike f g between middle name bytes alike stored again) first second
-comes_one (asks P next) f g m n r s one alike (b, holds, first) (c, also, second) =
-    comes_one (next b) f g m n r s (one.1 b) alike first (subst (λ x. Comes (next x) (Some g) n s) (one.0 c b also holds) second)
+comes_alike (loads name limit next) f g m n r s one alike (inr (d, why, is, kept)) (inr (e, reason, so, also)) =
+    (is ∙ ap Err (unloaded_alike f g name limit d e alike why reason) ∙ sym so, kept_alike f g m n alike kept also)
+comes_alike (stores name bytes next) f g m n r s one alike (None, stored, first) second = absurd stored.others
+comes_alike (stores name bytes next) f g m n r s one alike (Some between, stored, first) (None, again, second) = absurd again.others
+comes_alike (stores name bytes next) f g m n r s one alike (Some between, stored, first) (Some middle, again, second) =
+    comes_alike next between middle m n r s one (stored_alike f g between middle name bytes alike stored again) first second
+comes_alike (asks P next) f g m n r s one alike (b, holds, first) (c, also, second) =
+    comes_alike (next b) f g m n r s (one.1 b) alike first (subst (λ x. Comes (next x) (Some g) n s) (one.0 c b also holds) second)
 
 -- ---- which steps are one way
 

@@ -6,13 +6,13 @@ use Rattle.irt_steps.specs.declared.stop.Stop.TheVariants as stops
 use Rattle.irt_steps.specs.Steps.{Ending, ending, Steps, gives, ends, loads, stores, asks, after, judged, IsHeld, IsUnloaded, missing, too_long, Comes, FailsAt, Halts, LoadsNext, IsButFor}
 use Rattle.irt_steps.specs.Follow.{status_of, Follows, Answers, Decides}
 
-abbrev value : {A : Type 0} → A → Result A Ending
+abbrev pub value : {A : Type 0} → A → Result A Ending
 value x = Ok x
 
-abbrev stopped : {A : Type 0} → Ending → Result A Ending
+abbrev pub stopped : {A : Type 0} → Ending → Result A Ending
 stopped e = Err e
 
-ok_same : {A : Type 0} {x y : A} → value x ≡ value y → x ≡ y
+pub ok_same : {A : Type 0} {x y : A} → value x ≡ value y → x ≡ y
 ok_same is = cc
 
 err_same : {A B : Type 0} {d e : Ending} → stopped {A = A} e ≡ stopped {A = A} d → stopped {A = B} e ≡ stopped {A = B} d
@@ -60,7 +60,7 @@ but_none None name = tt
 but_none (Some files) name = λ other differs. refl
 
 -- memory may run out before any step
-halts_here : {A : Type 0} (steps : Steps A) (files : Option Files) → Halts steps files files
+pub halts_here : {A : Type 0} (steps : Steps A) (files : Option Files) → Halts steps files files
 halts_here (gives y) files = refl
 halts_here (ends d) files = refl
 halts_here (loads at limit more) files = inl refl

@@ -1,20 +1,23 @@
-mod CallLemmas
+pub mod CallLemmas
 mod CauseLemmas
 mod CheckLemmas
 mod CheckOne
-mod CycleLemmas
 mod FileLemmas
+mod GenAsked
+mod GenLemmas
+mod GenSteps
 mod NameLemmas
 mod OneLemmas
 mod OutcomeLemmas
 mod PlanLemmas
-mod PlanOne
+pub mod PlanOne
 mod PlanSteps
+pub mod RangeLemmas
 mod RunCame
 mod RunComes
 mod RunLemmas
-mod RunOne
-mod RunSafe
+pub mod RunOne
+pub mod RunSafe
 mod SpellingLemmas
 mod StoreOrder
 mod SyncLemmas

@@ -21,7 +21,6 @@ use Rattle.fit_rules.specs.Blocks.{AreFirstFit}
 use Rattle.fit_rules.specs.Fit.{IsInPhase, IsFirstFit, HasNoFit}
 use Rattle.fit_rules.specs.Order.{IsDemandAt, parents_of, IsPlacedAt, IsFit, IsOverrun}
 use Rattle.fit_rules.specs.Shape.{IsOn, IsSentBy, IsEntryOf, HasShape}
-use Rattle.plan_schedule.specs.Text.{IsPlanText}
 use Rattle.irt_top.specs.Plan.{IsNoWalk, OverrunsAt, ArePlanned, Planning, no_walk, overruns, planned, IsPlanning}
 
 -- ---- trees that agree
@@ -157,7 +156,7 @@ module _ (laws : TreeLaws) (plant : Plant) (r s : RouteTables) (first : IsRoutes
 -- ---- walks that are not there
 
 -- a plant that has routes lacks no walk
-walks_there : (plant : Plant) (fault : RouteFault) (routes : RouteTables) → IsNoWalk plant fault → IsRoutesOf plant routes → ⊥
+pub walks_there : (plant : Plant) (fault : RouteFault) (routes : RouteTables) → IsNoWalk plant fault → IsRoutesOf plant routes → ⊥
 walks_there plant faults.NoMemory routes fault are = fault
 walks_there plant (faults.Unreachable frame device) routes (unreached, first) are =
     let (demand, has, one) = unreached in
@@ -214,10 +213,6 @@ pub record FitLaws : Type 0 where
       IsRoutesOf plant routes → IsFit plant routes plans → IsOverrun plant routes frame → ⊥
   pub overruns : (plant : Plant) (routes : RouteTables) (frame other : FrameId) → IsRoutesOf plant routes →
       IsOverrun plant routes frame → IsOverrun plant routes other → frame ≡ other
-
--- a plan has one text
-abbrev pub TextLaw : Type 0
-TextLaw = (plant : Plant) (bundles : List Bundle) (text other : List ℕ) → IsPlanText plant bundles text → IsPlanText plant bundles other → text ≡ other
 
 module _ (trees : TreeLaws) (fits : FitLaws) (plant : Plant) where
   no_plan : (frame : FrameId) (bundles : List Bundle) → OverrunsAt plant frame → ArePlanned plant bundles → ⊥

@@ -26,7 +26,7 @@ abbrev Answer : Type 0
 Answer = Result (List ℕ) Ending
 
 abbrev steps_for : RunAsked → Steps (List ℕ)
-steps_for asked = run_steps asked.plant asked.cycles asked.world
+steps_for asked = run_steps asked.pace asked.plant asked.cycles asked.world
 
 pub data RunCame (files : Option Files) (asked : RunAsked) : Answer → Type 0 where
   plant_stopped : (e : Ending) → PlantStops files asked.plant e → RunCame files asked (Err e)
@@ -40,7 +40,7 @@ pub data RunCame (files : Option Files) (asked : RunAsked) : Answer → Type 0 w
   wrong_world : (p : Plant) (bundles : List Bundle) (walks : List (List PortNo)) (at : List ℕ) (line place : ℕ) → asked.world ≡ by_file at →
       IsSizedPlan files asked p bundles walks → IsWrongHeld files at p bundles asked.cycles line place → RunCame files asked (Err (ending 10 (world_line line place)))
   made : (p : Plant) (bundles : List Bundle) (walks : List (List PortNo)) (world : World) (text : List ℕ) → IsRun files asked p bundles walks world →
-      IsRunText p bundles walks world text → RunCame files asked (Ok text)
+      IsRunText asked.pace p bundles walks world text → RunCame files asked (Ok text)
 
 -- ---- each step
 
@@ -130,11 +130,11 @@ module _ (files new : Option Files) (asked : RunAsked) (p : Plant) (bundles : Li
   stop_here e d so is came = subst (RunCame files asked) (sym (so ∙ ap Err is)) came
 
   module _ (walks : List (List PortNo)) where
-    world_by : (sized : IsSizedPlan files asked p bundles walks) → Leads files asked (sized_steps asked.cycles asked.world p bundles walks) →
-        Comes (sized_steps asked.cycles asked.world p bundles walks) files new result → RunCame files asked result
+    world_by : (sized : IsSizedPlan files asked p bundles walks) → Leads files asked (sized_steps asked.pace asked.cycles asked.world p bundles walks) →
+        Comes (sized_steps asked.pace asked.cycles asked.world p bundles walks) files new result → RunCame files asked result
     world_by sized leads comes =
         let worlds = world_steps asked.world p bundles asked.cycles in
-        let records = record_steps p bundles walks in
+        let records = record_steps asked.pace p bundles walks in
         elim (comes_by worlds records files new result comes) [
           | inl (world, mid, first, (text, says, (so, kept))) ↦
               let is = world_ok asked.world p bundles asked.cycles files mid world first in
@@ -145,12 +145,12 @@ module _ (files new : Option Files) (asked : RunAsked) (p : Plant) (bundles : Li
           ]
         ]
 
-    size_by : (IsWalkedPlan files asked.plant p bundles walks) → Leads files asked (walked_steps asked.cycles asked.world p bundles walks) →
-        Comes (walked_steps asked.cycles asked.world p bundles walks) files new result → RunCame files asked result
+    size_by : (IsWalkedPlan files asked.plant p bundles walks) → Leads files asked (walked_steps asked.pace asked.cycles asked.world p bundles walks) →
+        Comes (walked_steps asked.pace asked.cycles asked.world p bundles walks) files new result → RunCame files asked result
     size_by plan leads comes =
         let is_long = is_too_long p bundles walks asked.cycles in
         let sizes = size_steps p bundles walks asked.cycles in
-        let rest : Unit {0} → Steps (List ℕ) = λ fits. sized_steps asked.cycles asked.world p bundles walks in
+        let rest : Unit {0} → Steps (List ℕ) = λ fits. sized_steps asked.pace asked.cycles asked.world p bundles walks in
         elim (comes_by sizes rest files new result comes) [
           | inl (u, mid, first, more) ↦
               let is = size_ok is_long files mid u first in
@@ -162,10 +162,10 @@ module _ (files new : Option Files) (asked : RunAsked) (p : Plant) (bundles : Li
               stop_here e (ending 11 long_run_line) so is.1 (long p bundles walks plan is.0)
         ]
 
-  walks_by : (IsCheckedPlan files asked.plant p bundles) → Leads files asked (ran_steps asked.cycles asked.world p bundles) →
-      Comes (ran_steps asked.cycles asked.world p bundles) files new result → RunCame files asked result
+  walks_by : (IsCheckedPlan files asked.plant p bundles) → Leads files asked (ran_steps asked.pace asked.cycles asked.world p bundles) →
+      Comes (ran_steps asked.pace asked.cycles asked.world p bundles) files new result → RunCame files asked result
   walks_by plan leads comes =
-      let rest = walked_steps asked.cycles asked.world p bundles in
+      let rest = walked_steps asked.pace asked.cycles asked.world p bundles in
       elim (comes_by (walks_steps p) rest files new result comes) [
         | inl (walks, mid, first, more) ↦
             let is = walks_ok p files mid walks first in
@@ -177,10 +177,10 @@ module _ (files new : Option Files) (asked : RunAsked) (p : Plant) (bundles : Li
             stop_here e (ending 6 (no_path_line traffic)) so is (cut p bundles traffic plan holds)
       ]
 
-  plan_by : (ArePlanFiles files asked.plant p bundles) → Leads files asked (run_plan_steps asked.cycles asked.world p bundles) →
-      Comes (run_plan_steps asked.cycles asked.world p bundles) files new result → RunCame files asked result
+  plan_by : (ArePlanFiles files asked.plant p bundles) → Leads files asked (run_plan_steps asked.pace asked.cycles asked.world p bundles) →
+      Comes (run_plan_steps asked.pace asked.cycles asked.world p bundles) files new result → RunCame files asked result
   plan_by are leads comes =
-      let rest : Unit {0} → Steps (List ℕ) = λ accepted. ran_steps asked.cycles asked.world p bundles in
+      let rest : Unit {0} → Steps (List ℕ) = λ accepted. ran_steps asked.pace asked.cycles asked.world p bundles in
       elim (comes_by (accepted_steps p bundles) rest files new result comes) [
         | inl (u, mid, first, more) ↦
             let is = accepted_ok p bundles files mid u first in
@@ -192,10 +192,10 @@ module _ (files new : Option Files) (asked : RunAsked) (p : Plant) (bundles : Li
             stop_here e (rejected p reject) so is (refused p bundles reject are holds)
       ]
 
-plant_by : (files new : Option Files) (asked : RunAsked) (p : Plant) (result : Answer) → IsPlantFile files asked.plant p → Leads files asked (run_plant_steps asked.cycles asked.world p) →
-    Comes (run_plant_steps asked.cycles asked.world p) files new result → RunCame files asked result
+plant_by : (files new : Option Files) (asked : RunAsked) (p : Plant) (result : Answer) → IsPlantFile files asked.plant p → Leads files asked (run_plant_steps asked.pace asked.cycles asked.world p) →
+    Comes (run_plant_steps asked.pace asked.cycles asked.world p) files new result → RunCame files asked result
 plant_by files new asked p result file leads comes =
-    let rest = run_plan_steps asked.cycles asked.world p in
+    let rest = run_plan_steps asked.pace asked.cycles asked.world p in
     let devices = bundles_steps p.devices [] in
     elim (comes_by devices rest files new result comes) [
       | inl (bundles, mid, first, more) ↦
@@ -209,9 +209,9 @@ plant_by files new asked p result file leads comes =
           (device_stopped stop.name e (leads stop.name DEVICE_FILE (loads_first devices rest files files stop.name DEVICE_FILE stop.next)) stop.stops)
     ]
 
-pub run_by : (files new : Option Files) (asked : RunAsked) (result : Answer) → Comes (run_steps asked.plant asked.cycles asked.world) files new result → RunCame files asked result
+pub run_by : (files new : Option Files) (asked : RunAsked) (result : Answer) → Comes (run_steps asked.pace asked.plant asked.cycles asked.world) files new result → RunCame files asked result
 run_by files new asked result comes =
-    let rest = run_plant_steps asked.cycles asked.world in
+    let rest = run_plant_steps asked.pace asked.cycles asked.world in
     elim (comes_by (plant_steps asked.plant) rest files new result comes) [
       | inl (p, mid, first, more) ↦
           let read = plant_file files mid asked.plant p first in

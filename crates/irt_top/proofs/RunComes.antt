@@ -13,7 +13,7 @@ use Rattle.irt_steps.proofs.StepLemmas.{comes_on, comes_end}
 use Rattle.irt_words.specs.Commands.{Command, plan, check, show, sync, run, run_world, gen, free}
 use Rattle.irt_world.specs.declared.rows.World.{World}
 use Rattle.plan_rules.specs.Places.{IsReject}
-use Rattle.plan_run.specs.Run.{IsRunText}
+use Rattle.plan_run.specs.Run.{IsRunText, Pace, in_lockstep, freely}
 use Rattle.plan_run.specs.Size.{is_too_long}
 use Rattle.irt_top.specs.Check.{rejected, ArePlanFiles}
 use Rattle.plan_rules.specs.declared.place.Reject.{Reject}
@@ -29,14 +29,18 @@ abbrev Answer : Type 0
 Answer = Result (List ℕ) Ending
 
 -- the words' steps are those of a run
-pub run_asked_steps : (o : Option Command) (asked : RunAsked) → run_asked o ≡ Some asked → asked_steps o ≡ run_steps asked.plant asked.cycles asked.world
-run_asked_steps (Some (run p c s)) asked is = ap (λ (a : RunAsked). run_steps a.plant a.cycles a.world) same
+pub run_asked_steps : (o : Option Command) (asked : RunAsked) → run_asked o ≡ Some asked → asked_steps o ≡ run_steps asked.pace asked.plant asked.cycles asked.world
+run_asked_steps (Some (run p c s)) asked is = ap (λ (a : RunAsked). run_steps a.pace a.plant a.cycles a.world) same
   where
-    same : record { plant = p; cycles = c; world = by_seed s } ≡ asked
+    same : record { pace = in_lockstep; plant = p; cycles = c; world = by_seed s } ≡ asked
     same = cc
-run_asked_steps (Some (run_world p c w)) asked is = ap (λ (a : RunAsked). run_steps a.plant a.cycles a.world) same
+run_asked_steps (Some (run_world p c w)) asked is = ap (λ (a : RunAsked). run_steps a.pace a.plant a.cycles a.world) same
   where
-    same : record { plant = p; cycles = c; world = by_file w } ≡ asked
+    same : record { pace = in_lockstep; plant = p; cycles = c; world = by_file w } ≡ asked
+    same = cc
+run_asked_steps (Some (free p c s)) asked is = ap (λ (a : RunAsked). run_steps a.pace a.plant a.cycles a.world) same
+  where
+    same : record { pace = freely; plant = p; cycles = c; world = by_seed s } ≡ asked
     same = cc
 run_asked_steps None asked is = absurd (none-some asked is)
 run_asked_steps (Some (plan p)) asked is = absurd (none-some asked is)
@@ -44,37 +48,36 @@ run_asked_steps (Some (check p)) asked is = absurd (none-some asked is)
 run_asked_steps (Some (show f)) asked is = absurd (none-some asked is)
 run_asked_steps (Some (sync p c s)) asked is = absurd (none-some asked is)
 run_asked_steps (Some (gen s d f n)) asked is = absurd (none-some asked is)
-run_asked_steps (Some (free p c s)) asked is = absurd (none-some asked is)
 
-module _ (files : Option Files) (name : List ℕ) (cycles : ℕ) (source : WorldSource) (p : Plant) (bundles : List Bundle) where
-  from_plan : (result : Answer) → ArePlanFiles files name p bundles → Comes (run_plan_steps cycles source p bundles) files files result →
-      Comes (run_steps name cycles source) files files result
+module _ (files : Option Files) (pace : Pace) (name : List ℕ) (cycles : ℕ) (source : WorldSource) (p : Plant) (bundles : List Bundle) where
+  from_plan : (result : Answer) → ArePlanFiles files name p bundles → Comes (run_plan_steps pace cycles source p bundles) files files result →
+      Comes (run_steps pace name cycles source) files files result
   from_plan result are comes =
-      comes_on (plant_steps name) (run_plant_steps cycles source) files files files p result (plant_comes files name p are.plant_file)
-      (comes_on (bundles_steps p.devices []) (run_plan_steps cycles source p) files files files bundles result (bundles_come p.devices [] bundles files are.device_files) comes)
+      comes_on (plant_steps name) (run_plant_steps pace cycles source) files files files p result (plant_comes files name p are.plant_file)
+      (comes_on (bundles_steps p.devices []) (run_plan_steps pace cycles source p) files files files bundles result (bundles_come p.devices [] bundles files are.device_files) comes)
 
-  from_accepted : (result : Answer) → IsCheckedPlan files name p bundles → Comes (ran_steps cycles source p bundles) files files result →
-      Comes (run_steps name cycles source) files files result
+  from_accepted : (result : Answer) → IsCheckedPlan files name p bundles → Comes (ran_steps pace cycles source p bundles) files files result →
+      Comes (run_steps pace name cycles source) files files result
   from_accepted result known comes =
       from_plan result known.are
-      (comes_on (accepted_steps p bundles) (λ accepted. ran_steps cycles source p bundles) files files files tt result (None, known.accepted, (refl, refl)) comes)
+      (comes_on (accepted_steps p bundles) (λ accepted. ran_steps pace cycles source p bundles) files files files tt result (None, known.accepted, (refl, refl)) comes)
 
-  from_walked : (walks : List (List PortNo)) (result : Answer) → IsWalkedPlan files name p bundles walks → Comes (walked_steps cycles source p bundles walks) files files result →
-      Comes (run_steps name cycles source) files files result
+  from_walked : (walks : List (List PortNo)) (result : Answer) → IsWalkedPlan files name p bundles walks → Comes (walked_steps pace cycles source p bundles walks) files files result →
+      Comes (run_steps pace name cycles source) files files result
   from_walked walks result known comes =
       from_accepted result known.checked
-      (comes_on (walks_steps p) (walked_steps cycles source p bundles) files files files walks result (walked walks, known.are_walks, (refl, refl)) comes)
+      (comes_on (walks_steps p) (walked_steps pace cycles source p bundles) files files files walks result (walked walks, known.are_walks, (refl, refl)) comes)
 
-  pub rejected_comes : (r : Reject) → ArePlanFiles files name p bundles → IsReject p bundles r → Comes (run_steps name cycles source) files files (Err (rejected p r))
+  pub rejected_comes : (r : Reject) → ArePlanFiles files name p bundles → IsReject p bundles r → Comes (run_steps pace name cycles source) files files (Err (rejected p r))
   rejected_comes r are rejects =
       from_plan (Err (rejected p r)) are
-      (comes_end (accepted_steps p bundles) (λ accepted. ran_steps cycles source p bundles) files files (rejected p r) (Some r, rejects, (refl, refl)))
+      (comes_end (accepted_steps p bundles) (λ accepted. ran_steps pace cycles source p bundles) files files (rejected p r) (Some r, rejects, (refl, refl)))
 
   pub cut_comes : (traffic : ℕ) → IsCheckedPlan files name p bundles → IsFirstCutTraffic (peer_of p) p.traffic traffic →
-      Comes (run_steps name cycles source) files files (Err (ending 6 (no_path_line traffic)))
+      Comes (run_steps pace name cycles source) files files (Err (ending 6 (no_path_line traffic)))
   cut_comes traffic known holds =
       from_accepted (Err (ending 6 (no_path_line traffic))) known
-      (comes_end (walks_steps p) (walked_steps cycles source p bundles) files files (ending 6 (no_path_line traffic)) (no_path traffic, holds, (refl, refl)))
+      (comes_end (walks_steps p) (walked_steps pace cycles source p bundles) files files (ending 6 (no_path_line traffic)) (no_path traffic, holds, (refl, refl)))
 
 over_comes : (over : Bool) (files : Option Files) → over ≡ true → Comes (judged (size_answer over)) files files (Err (ending 11 long_run_line))
 over_comes true files is = (refl, refl)
@@ -85,17 +88,17 @@ fits_comes true files is = absurd cc
 fits_comes false files is = (refl, refl)
 
 pub long_comes : (files : Option Files) (asked : RunAsked) (p : Plant) (bundles : List Bundle) (walks : List (List PortNo)) → IsWalkedPlan files asked.plant p bundles walks →
-    is_too_long p bundles walks asked.cycles ≡ true → Comes (run_steps asked.plant asked.cycles asked.world) files files (Err (ending 11 long_run_line))
+    is_too_long p bundles walks asked.cycles ≡ true → Comes (run_steps asked.pace asked.plant asked.cycles asked.world) files files (Err (ending 11 long_run_line))
 long_comes files asked p bundles walks known over =
-    from_walked files asked.plant asked.cycles asked.world p bundles walks (Err (ending 11 long_run_line)) known
-    (comes_end (size_steps p bundles walks asked.cycles) (λ fits. sized_steps asked.cycles asked.world p bundles walks) files files (ending 11 long_run_line)
+    from_walked files asked.pace asked.plant asked.cycles asked.world p bundles walks (Err (ending 11 long_run_line)) known
+    (comes_end (size_steps p bundles walks asked.cycles) (λ fits. sized_steps asked.pace asked.cycles asked.world p bundles walks) files files (ending 11 long_run_line)
     (over_comes (is_too_long p bundles walks asked.cycles) files over))
 
 from_sized : (files : Option Files) (asked : RunAsked) (p : Plant) (bundles : List Bundle) (walks : List (List PortNo)) (result : Answer) → IsSizedPlan files asked p bundles walks →
-    Comes (sized_steps asked.cycles asked.world p bundles walks) files files result → Comes (run_steps asked.plant asked.cycles asked.world) files files result
+    Comes (sized_steps asked.pace asked.cycles asked.world p bundles walks) files files result → Comes (run_steps asked.pace asked.plant asked.cycles asked.world) files files result
 from_sized files asked p bundles walks result known comes =
-    from_walked files asked.plant asked.cycles asked.world p bundles walks result known.walked
-    (comes_on (size_steps p bundles walks asked.cycles) (λ fits. sized_steps asked.cycles asked.world p bundles walks) files files files tt result
+    from_walked files asked.pace asked.plant asked.cycles asked.world p bundles walks result known.walked
+    (comes_on (size_steps p bundles walks asked.cycles) (λ fits. sized_steps asked.pace asked.cycles asked.world p bundles walks) files files files tt result
     (fits_comes (is_too_long p bundles walks asked.cycles) files known.fits) comes)
 
 wrong_stops : (files : Option Files) (source : WorldSource) (name : List ℕ) (p : Plant) (bundles : List Bundle) (cycles line place : ℕ) → source ≡ by_file name →
@@ -106,10 +109,10 @@ wrong_stops files source name p bundles cycles line place named held =
 
 pub wrong_comes : (files : Option Files) (asked : RunAsked) (p : Plant) (bundles : List Bundle) (walks : List (List PortNo)) (name : List ℕ) (line place : ℕ) → asked.world ≡ by_file name →
     IsSizedPlan files asked p bundles walks → IsWrongHeld files name p bundles asked.cycles line place →
-    Comes (run_steps asked.plant asked.cycles asked.world) files files (Err (ending 10 (world_line line place)))
+    Comes (run_steps asked.pace asked.plant asked.cycles asked.world) files files (Err (ending 10 (world_line line place)))
 wrong_comes files asked p bundles walks name line place named known held =
     from_sized files asked p bundles walks (Err (ending 10 (world_line line place))) known
-    (comes_end (world_steps asked.world p bundles asked.cycles) (record_steps p bundles walks) files files (ending 10 (world_line line place))
+    (comes_end (world_steps asked.world p bundles asked.cycles) (record_steps asked.pace p bundles walks) files files (ending 10 (world_line line place))
     (wrong_stops files asked.world name p bundles asked.cycles line place named held))
 
 world_comes : (files : Option Files) (source : WorldSource) (p : Plant) (bundles : List Bundle) (cycles : ℕ) (world : World) → IsWorldOf files source p bundles cycles world →
@@ -118,10 +121,10 @@ world_comes files (by_seed seed) p bundles cycles world is = (world, is, (refl, 
 world_comes files (by_file name) p bundles cycles world is = inl (is.bytes, is.held, (right world, is.is, (refl, refl)))
 
 pub run_comes : (files : Option Files) (asked : RunAsked) (p : Plant) (bundles : List Bundle) (walks : List (List PortNo)) (world : World) (text : List ℕ) →
-    IsRun files asked p bundles walks world → IsRunText p bundles walks world text → Comes (run_steps asked.plant asked.cycles asked.world) files files (Ok text)
+    IsRun files asked p bundles walks world → IsRunText asked.pace p bundles walks world text → Comes (run_steps asked.pace asked.plant asked.cycles asked.world) files files (Ok text)
 run_comes files asked p bundles walks world text of says =
     from_sized files asked p bundles walks (Ok text) of.sized
-    (comes_on (world_steps asked.world p bundles asked.cycles) (record_steps p bundles walks) files files files world (Ok text)
+    (comes_on (world_steps asked.world p bundles asked.cycles) (record_steps asked.pace p bundles walks) files files files world (Ok text)
     (world_comes files asked.world p bundles asked.cycles world of.is_world) (text, says, (refl, refl)))
 
 -- ---- no device's file is loaded after those of the plan
@@ -129,22 +132,22 @@ run_comes files asked p bundles walks world text of says =
 limits_differ : DEVICE_FILE ≡ WORLD_FILE → ⊥
 limits_differ is = omega (arith, is)
 
-world_loads : (source : WorldSource) (p : Plant) (bundles : List Bundle) (cycles : ℕ) (walks : List (List PortNo)) (files now : Option Files) (name : List ℕ) →
-    LoadsNext (sized_steps cycles source p bundles walks) files name DEVICE_FILE now → ⊥
-world_loads (by_seed seed) p bundles cycles walks files now name (world, holds, (text, says, next)) = next
-world_loads (by_file at) p bundles cycles walks files now name (inl (same, limit, kept)) = limits_differ limit
-world_loads (by_file at) p bundles cycles walks files now name (inr (bytes, held, (right world, holds, (text, says, next)))) = next
-world_loads (by_file at) p bundles cycles walks files now name (inr (bytes, held, (wrong line place, holds, next))) = next
+world_loads : (pace : Pace) (source : WorldSource) (p : Plant) (bundles : List Bundle) (cycles : ℕ) (walks : List (List PortNo)) (files now : Option Files) (name : List ℕ) →
+    LoadsNext (sized_steps pace cycles source p bundles walks) files name DEVICE_FILE now → ⊥
+world_loads pace (by_seed seed) p bundles cycles walks files now name (world, holds, (text, says, next)) = next
+world_loads pace (by_file at) p bundles cycles walks files now name (inl (same, limit, kept)) = limits_differ limit
+world_loads pace (by_file at) p bundles cycles walks files now name (inr (bytes, held, (right world, holds, (text, says, next)))) = next
+world_loads pace (by_file at) p bundles cycles walks files now name (inr (bytes, held, (wrong line place, holds, next))) = next
 
 size_loads : (over : Bool) (f : Unit {0} → Steps (List ℕ)) (files now : Option Files) (name : List ℕ) → ((u : Unit {0}) → LoadsNext (f u) files name DEVICE_FILE now → ⊥) →
     LoadsNext (after (judged (size_answer over)) f) files name DEVICE_FILE now → ⊥
 size_loads true f files now name none next = next
 size_loads false f files now name none next = none tt next
 
-pub plan_loads : (cycles : ℕ) (source : WorldSource) (p : Plant) (bundles : List Bundle) (files now : Option Files) (name : List ℕ) →
-    LoadsNext (run_plan_steps cycles source p bundles) files name DEVICE_FILE now → ⊥
-plan_loads cycles source p bundles files now name (Some r, rejects, next) = next
-plan_loads cycles source p bundles files now name (None, accepted, (no_path traffic, holds, next)) = next
-plan_loads cycles source p bundles files now name (None, accepted, (walked walks, holds, next)) =
-    size_loads (is_too_long p bundles walks cycles) (λ fits. sized_steps cycles source p bundles walks) files now name
-    (λ u. world_loads source p bundles cycles walks files now name) next
+pub plan_loads : (pace : Pace) (cycles : ℕ) (source : WorldSource) (p : Plant) (bundles : List Bundle) (files now : Option Files) (name : List ℕ) →
+    LoadsNext (run_plan_steps pace cycles source p bundles) files name DEVICE_FILE now → ⊥
+plan_loads pace cycles source p bundles files now name (Some r, rejects, next) = next
+plan_loads pace cycles source p bundles files now name (None, accepted, (no_path traffic, holds, next)) = next
+plan_loads pace cycles source p bundles files now name (None, accepted, (walked walks, holds, next)) =
+    size_loads (is_too_long p bundles walks cycles) (λ fits. sized_steps pace cycles source p bundles walks) files now name
+    (λ u. world_loads pace source p bundles cycles walks files now name) next

@@ -18,13 +18,14 @@ use Rattle.irt_steps.specs.Steps.{Ending, ending, asks, judged, Comes}
 use Rattle.irt_world.specs.declared.rows.World.{World}
 use Rattle.plan_check.specs.Settled.{Settled}
 use Rattle.plan_rules.specs.Plan.{IsPlan}
+use Rattle.plan_run.specs.Run.{Pace}
 use Rattle.world_file.specs.Text.{IsWorldFile}
 use Rattle.world_file.specs.Wrong.{IsRefusal}
 use Rattle.world_file.specs.declared.fault.WorldFault.{WorldFault}
 use Rattle.world_file.specs.declared.fault.WorldFault.TheVariants as worlds
 use Rattle.irt_words.specs.Commands.{command_of}
 use Rattle.irt_words.specs.declared.asked.Asked.{Asked}
-use Rattle.irt_top.specs.Commands.{asked_steps}
+use Rattle.irt_top.specs.Commands.{asked_steps, calm_of}
 use Rattle.irt_top.specs.Lines.{no_path_line, world_line}
 use Rattle.irt_top.specs.Run.{no_path, walked, IsWalking, walking_answer, walks_steps, ran_steps, run_plan_steps}
 use Rattle.irt_top.specs.World.{WorldSource, by_seed, source_of, right, wrong, IsWorldReading, reading_answer, reading_steps, world_steps}
@@ -89,18 +90,18 @@ world_stops plant p bundles bs cycles bytes fault line place stop is same plan f
 -- ---- the plan that was accepted
 
 -- the steps on an accepted plan are those on the plan
-pub follow_ran : (a : Settled) (plant : Plant) (bundles : List Bundle) (cycles : ℕ) (source : WorldSource) (old new : Option Files) (result : Result (Vec ℕ) Stop) →
-    (a.plant ≡ plant) × (a.bundles ≡ bundles) → Follows (λ (v : Vec ℕ). v.items) (ran_steps cycles source a.plant a.bundles) old new result →
-    Follows (λ (v : Vec ℕ). v.items) (ran_steps cycles source plant bundles) old new result
-follow_ran a plant bundles cycles source old new result same follows =
-    subst (λ (p : Plant). Follows (λ (v : Vec ℕ). v.items) (ran_steps cycles source p bundles) old new result) same.0
-    (subst (λ (bs : List Bundle). Follows (λ (v : Vec ℕ). v.items) (ran_steps cycles source a.plant bs) old new result) same.1 follows)
+pub follow_ran : (pace : Pace) (a : Settled) (plant : Plant) (bundles : List Bundle) (cycles : ℕ) (source : WorldSource) (old new : Option Files) (result : Result (Vec ℕ) Stop) →
+    (a.plant ≡ plant) × (a.bundles ≡ bundles) → Follows (λ (v : Vec ℕ). v.items) (ran_steps pace cycles source a.plant a.bundles) old new result →
+    Follows (λ (v : Vec ℕ). v.items) (ran_steps pace cycles source plant bundles) old new result
+follow_ran pace a plant bundles cycles source old new result same follows =
+    subst (λ (p : Plant). Follows (λ (v : Vec ℕ). v.items) (ran_steps pace cycles source p bundles) old new result) same.0
+    (subst (λ (bs : List Bundle). Follows (λ (v : Vec ℕ). v.items) (ran_steps pace cycles source a.plant bs) old new result) same.1 follows)
 
 -- the steps on blocks that were read
-pub follow_plan : (plant : Plant) (read bundles : List Bundle) (cycles : ℕ) (source : WorldSource) (old new : Option Files) (result : Result (Vec ℕ) Stop) → bundles ≡ read →
-    Follows (λ (v : Vec ℕ). v.items) (run_plan_steps cycles source plant bundles) old new result → Follows (λ (v : Vec ℕ). v.items) (run_plan_steps cycles source plant read) old new result
-follow_plan plant read bundles cycles source old new result is follows =
-    subst (λ (bs : List Bundle). Follows (λ (v : Vec ℕ). v.items) (run_plan_steps cycles source plant bs) old new result) is follows
+pub follow_plan : (pace : Pace) (plant : Plant) (read bundles : List Bundle) (cycles : ℕ) (source : WorldSource) (old new : Option Files) (result : Result (Vec ℕ) Stop) → bundles ≡ read →
+    Follows (λ (v : Vec ℕ). v.items) (run_plan_steps pace cycles source plant bundles) old new result → Follows (λ (v : Vec ℕ). v.items) (run_plan_steps pace cycles source plant read) old new result
+follow_plan pace plant read bundles cycles source old new result is follows =
+    subst (λ (bs : List Bundle). Follows (λ (v : Vec ℕ). v.items) (run_plan_steps pace cycles source plant bs) old new result) is follows
 
 -- the steps on a file that was loaded
 pub follow_file : (plant : Plant) (bundles : List Bundle) (cycles : ℕ) (read bytes : List ℕ) (files : Option Files) (result : Result World Stop) → bytes ≡ read →
@@ -116,5 +117,5 @@ follow_seed asked seed plant bundles cycles files result is decides =
 
 -- the steps of a command
 pub command_on : (asked a : Asked) (old new : Option Files) (result : Result (Vec ℕ) Stop) → asked ≡ a →
-    Follows (λ (v : Vec ℕ). v.items) (asked_steps (Some (command_of a))) old new result → Follows (λ (v : Vec ℕ). v.items) (asked_steps (Some (command_of asked))) old new result
-command_on asked a old new result is follows = subst (λ (x : Asked). Follows (λ (v : Vec ℕ). v.items) (asked_steps (Some (command_of x))) old new result) (sym is) follows
+    Follows (λ (v : Vec ℕ). v.items) (asked_steps (calm_of (Some (command_of a)))) old new result → Follows (λ (v : Vec ℕ). v.items) (asked_steps (calm_of (Some (command_of asked)))) old new result
+command_on asked a old new result is follows = subst (λ (x : Asked). Follows (λ (v : Vec ℕ). v.items) (asked_steps (calm_of (Some (command_of x)))) old new result) (sym is) follows

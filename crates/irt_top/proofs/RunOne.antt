@@ -1,4 +1,4 @@
--- A run comes to one thing.
+-- A run comes to one status.
 use Rattle.std.proofs.Common.{◌≡◌, inl, inr, ℕ, List, [], ap, ap₂}
 use Rattle.std.proofs.lemmas.Bool.{cases_order}
 use Rattle.irt_base.specs.Wiring.{peer_of}
@@ -7,10 +7,11 @@ use Rattle.irt_base.specs.declared.numbers.PortNo.{PortNo}
 use Rattle.irt_base.specs.declared.plants.Plant.{Plant}
 use Rattle.irt_route.specs.Routes.{AreTrafficWalks, IsFirstCutTraffic}
 use Rattle.irt_steps.specs.Steps.{IsOneWay}
-use Rattle.irt_steps.proofs.OneWay.{judged_one, after_one}
+use Rattle.irt_steps.proofs.OneStatus.{HasOneStatus, after_status, asks_status}
+use Rattle.irt_steps.proofs.OneWay.{judged_one}
 use Rattle.irt_world.specs.declared.rows.World.{World}
 use Rattle.plan_rules.specs.Plan.{IsPlan}
-use Rattle.plan_run.specs.Run.{IsRunText}
+use Rattle.plan_run.specs.Run.{IsRunText, Pace}
 use Rattle.plan_run.specs.Size.{is_too_long}
 use Rattle.plan_run.specs.World.{IsSeedWorld}
 use Rattle.world_file.specs.Text.{IsWorldFile}
@@ -22,10 +23,8 @@ use Rattle.irt_top.specs.Run.{accepted_answer, accepted_steps, Walking, no_path,
 use Rattle.irt_top.specs.World.{WorldSource, by_seed, by_file, WorldReading, right, wrong, IsWorldReading, reading_answer, world_steps}
 use Rattle.irt_top.proofs.CheckOne.{check_one, bundles_one}
 
--- a run has one text, a seed one world, traffic one list of walks, and a world file is one world's or wrong at one place
+-- a seed has one world, traffic one list of walks, and a world file is one world's or wrong at one place
 pub record RunLaws : Type 0 where
-  pub texts : (plant : Plant) (bundles : List Bundle) (walks : List (List PortNo)) (world : World) (text other : List ℕ) →
-      IsRunText plant bundles walks world text → IsRunText plant bundles walks world other → text ≡ other
   pub worlds : (plant : Plant) (bundles : List Bundle) (seed cycles : ℕ) (world other : World) →
       IsSeedWorld plant bundles seed cycles world → IsSeedWorld plant bundles seed cycles other → world ≡ other
   pub walks : (plant : Plant) (walks others : List (List PortNo)) → AreTrafficWalks (peer_of plant) plant.traffic walks →
@@ -71,32 +70,35 @@ module _ (laws : RunLaws) where
   world_one (by_seed seed) plant bundles cycles = (laws.worlds plant bundles seed cycles, λ world. tt)
   world_one (by_file name) plant bundles cycles = λ bytes. (one_reading plant bundles cycles bytes, λ found. judged_one (reading_answer found))
 
-  record_one : (plant : Plant) (bundles : List Bundle) (walks : List (List PortNo)) (world : World) → IsOneWay (record_steps plant bundles walks world)
-  record_one plant bundles walks world = (laws.texts plant bundles walks world, λ text. tt)
+  -- whatever record a run leaves
+  sized_status : (pace : Pace) (cycles : ℕ) (source : WorldSource) (plant : Plant) (bundles : List Bundle) (walks : List (List PortNo)) →
+      HasOneStatus (sized_steps pace cycles source plant bundles walks)
+  sized_status pace cycles source plant bundles walks =
+      after_status (world_steps source plant bundles cycles) (record_steps pace plant bundles walks) (world_one source plant bundles cycles)
+      (λ world. asks_status (IsRunText pace plant bundles walks world))
 
-  sized_one : (cycles : ℕ) (source : WorldSource) (plant : Plant) (bundles : List Bundle) (walks : List (List PortNo)) → IsOneWay (sized_steps cycles source plant bundles walks)
-  sized_one cycles source plant bundles walks =
-      after_one (world_steps source plant bundles cycles) (record_steps plant bundles walks) (world_one source plant bundles cycles) (record_one plant bundles walks)
+  walked_status : (pace : Pace) (cycles : ℕ) (source : WorldSource) (plant : Plant) (bundles : List Bundle) (walks : List (List PortNo)) →
+      HasOneStatus (walked_steps pace cycles source plant bundles walks)
+  walked_status pace cycles source plant bundles walks =
+      after_status (size_steps plant bundles walks cycles) (λ fits. sized_steps pace cycles source plant bundles walks)
+      (judged_one (size_answer (is_too_long plant bundles walks cycles))) (λ fits. sized_status pace cycles source plant bundles walks)
 
-  walked_one : (cycles : ℕ) (source : WorldSource) (plant : Plant) (bundles : List Bundle) (walks : List (List PortNo)) → IsOneWay (walked_steps cycles source plant bundles walks)
-  walked_one cycles source plant bundles walks =
-      after_one (size_steps plant bundles walks cycles) (λ fits. sized_steps cycles source plant bundles walks) (judged_one (size_answer (is_too_long plant bundles walks cycles)))
-      (λ fits. sized_one cycles source plant bundles walks)
+  ran_status : (pace : Pace) (cycles : ℕ) (source : WorldSource) (plant : Plant) (bundles : List Bundle) → HasOneStatus (ran_steps pace cycles source plant bundles)
+  ran_status pace cycles source plant bundles =
+      after_status (walks_steps plant) (walked_steps pace cycles source plant bundles) (one_walking plant, λ found. judged_one (walking_answer found))
+      (walked_status pace cycles source plant bundles)
 
-  ran_one : (cycles : ℕ) (source : WorldSource) (plant : Plant) (bundles : List Bundle) → IsOneWay (ran_steps cycles source plant bundles)
-  ran_one cycles source plant bundles =
-      after_one (walks_steps plant) (walked_steps cycles source plant bundles) (one_walking plant, λ found. judged_one (walking_answer found))
-      (walked_one cycles source plant bundles)
+  run_plan_status : (pace : Pace) (cycles : ℕ) (source : WorldSource) (plant : Plant) (bundles : List Bundle) → HasOneStatus (run_plan_steps pace cycles source plant bundles)
+  run_plan_status pace cycles source plant bundles =
+      after_status (accepted_steps plant bundles) (λ accepted. ran_steps pace cycles source plant bundles)
+      (check_one plant bundles, λ found. judged_one (accepted_answer plant found)) (λ accepted. ran_status pace cycles source plant bundles)
 
-  run_plan_one : (cycles : ℕ) (source : WorldSource) (plant : Plant) (bundles : List Bundle) → IsOneWay (run_plan_steps cycles source plant bundles)
-  run_plan_one cycles source plant bundles =
-      after_one (accepted_steps plant bundles) (λ accepted. ran_steps cycles source plant bundles)
-      (check_one plant bundles, λ found. judged_one (accepted_answer plant found)) (λ accepted. ran_one cycles source plant bundles)
+  run_plant_status : (pace : Pace) (cycles : ℕ) (source : WorldSource) (plant : Plant) → HasOneStatus (run_plant_steps pace cycles source plant)
+  run_plant_status pace cycles source plant =
+      after_status (bundles_steps plant.devices []) (run_plan_steps pace cycles source plant) (bundles_one plant.devices [])
+      (run_plan_status pace cycles source plant)
 
-  run_plant_one : (cycles : ℕ) (source : WorldSource) (plant : Plant) → IsOneWay (run_plant_steps cycles source plant)
-  run_plant_one cycles source plant =
-      after_one (bundles_steps plant.devices []) (run_plan_steps cycles source plant) (bundles_one plant.devices []) (run_plan_one cycles source plant)
-
-  pub run_one : (name : List ℕ) (cycles : ℕ) (source : WorldSource) → IsOneWay (run_steps name cycles source)
-  run_one name cycles source =
-      after_one (plant_steps name) (run_plant_steps cycles source) (λ bytes. judged_one (plant_answer (plant_of bytes))) (run_plant_one cycles source)
+  pub run_status : (pace : Pace) (name : List ℕ) (cycles : ℕ) (source : WorldSource) → HasOneStatus (run_steps pace name cycles source)
+  run_status pace name cycles source =
+      after_status (plant_steps name) (run_plant_steps pace cycles source) (λ bytes. judged_one (plant_answer (plant_of bytes)))
+      (run_plant_status pace cycles source)

@@ -1,4 +1,4 @@
--- What `run` prints is the text of a safe run.
+-- What `run` and `free` print is the text of a safe run.
 use Rattle.std.proofs.Common.{◌≡◌, ◌≤◌, inl, inr, ℕ, List, length, Option, Some, None, sym, ◌∙◌, ap, subst, arith}
 use Rattle.std.proofs.lemmas.Option.{none-some, same_Some}
 use Rattle.irt_base.specs.declared.blocks.Bundle.{Bundle}
@@ -6,48 +6,50 @@ use Rattle.irt_base.specs.declared.numbers.PortNo.{PortNo}
 use Rattle.irt_base.specs.declared.plants.Plant.{Plant}
 use Rattle.irt_io.specs.Files.{Files}
 use Rattle.irt_steps.specs.Steps.{Ending}
-use Rattle.irt_words.specs.Asked.{asked_of}
 use Rattle.irt_words.specs.Commands.{Command, plan, check, show, sync, run, run_world, gen, free}
 use Rattle.irt_world.specs.Rows.{Fits}
 use Rattle.irt_world.specs.declared.rows.World.{World}
 use Rattle.plan_rules.specs.Plan.{IsPlan}
 use Rattle.plan_rules.specs.Places.{IsAccepted}
-use Rattle.plan_run.specs.Run.{IsRecordOf, IsRunText}
+use Rattle.plan_run.specs.Run.{IsRecordBy, IsRunText, Pace, in_lockstep, freely}
 use Rattle.plan_run.specs.Safe.{IsSafeRun}
 use Rattle.plan_run.specs.World.{IsSeedWorld}
 use Rattle.record_text.specs.declared.record.Record.{Record}
 use Rattle.irt_top.specs.Call.{Call, TellsCause, RunsSafely}
 use Rattle.irt_top.specs.Cause as causes
 use Rattle.irt_top.specs.Cause.{IsCauseOf}
-use Rattle.irt_top.specs.Commands.{HasCycles}
+use Rattle.irt_top.specs.Commands.{HasRanges}
 use Rattle.irt_top.specs.Run.{RunAsked, run_asked, IsRun, IsSafeRunText}
 use Rattle.irt_top.specs.World.{WorldSource, by_seed, by_file, IsWorldOf}
 use Rattle.irt_top.proofs.CallLemmas.{not_faulty, plan_files}
-use Rattle.irt_top.proofs.CycleLemmas.{asked_few}
+use Rattle.irt_top.proofs.GenAsked.{gen_asked_is}
 
 -- the record of a run of accepted blocks is safe, and a seed's world has the cycles asked for
 pub record SafeLaws : Type 0 where
-  pub safe : (plant : Plant) (bundles : List Bundle) → IsPlan plant bundles → IsAccepted plant bundles → (walks : List (List PortNo)) (world : World) (r : Record) → Fits plant bundles world →
-      1 ≤ length world.rows → IsRecordOf plant bundles walks world r → IsSafeRun plant bundles walks world r
+  pub safe : (plant : Plant) (bundles : List Bundle) → IsPlan plant bundles → IsAccepted plant bundles → (pace : Pace) (walks : List (List PortNo)) (world : World) (r : Record) → Fits plant bundles world →
+      1 ≤ length world.rows → IsRecordBy pace plant bundles walks world r → IsSafeRun pace plant bundles walks world r
   pub cycles : (plant : Plant) (bundles : List Bundle) (seed cycles : ℕ) (world : World) → IsSeedWorld plant bundles seed cycles world → length world.rows ≡ cycles
 
 -- a run has some cycles
-some_cycles : (o : Option Command) (asked : RunAsked) → HasCycles o → run_asked o ≡ Some asked → 1 ≤ asked.cycles
+some_cycles : (o : Option Command) (asked : RunAsked) → HasRanges o → run_asked o ≡ Some asked → 1 ≤ asked.cycles
 some_cycles (Some (run p c s)) asked has is = subst (λ n. 1 ≤ n) same has.0
   where
     same : c ≡ asked.cycles
-    same = ap (λ (a : RunAsked). a.cycles) (same_Some (record { plant = p; cycles = c; world = by_seed s }) asked is)
+    same = ap (λ (a : RunAsked). a.cycles) (same_Some (record { pace = in_lockstep; plant = p; cycles = c; world = by_seed s }) asked is)
 some_cycles (Some (run_world p c w)) asked has is = subst (λ n. 1 ≤ n) same has.0
   where
     same : c ≡ asked.cycles
-    same = ap (λ (a : RunAsked). a.cycles) (same_Some (record { plant = p; cycles = c; world = by_file w }) asked is)
+    same = ap (λ (a : RunAsked). a.cycles) (same_Some (record { pace = in_lockstep; plant = p; cycles = c; world = by_file w }) asked is)
+some_cycles (Some (free p c s)) asked has is = subst (λ n. 1 ≤ n) same has.0
+  where
+    same : c ≡ asked.cycles
+    same = ap (λ (a : RunAsked). a.cycles) (same_Some (record { pace = freely; plant = p; cycles = c; world = by_seed s }) asked is)
 some_cycles None asked has is = absurd (none-some asked is)
 some_cycles (Some (plan p)) asked has is = absurd (none-some asked is)
 some_cycles (Some (check p)) asked has is = absurd (none-some asked is)
 some_cycles (Some (show f)) asked has is = absurd (none-some asked is)
 some_cycles (Some (sync p c s)) asked has is = absurd (none-some asked is)
 some_cycles (Some (gen s d f n)) asked has is = absurd (none-some asked is)
-some_cycles (Some (free p c s)) asked has is = absurd (none-some asked is)
 
 module _ (laws : SafeLaws) where
   world_fits : (files : Option Files) (source : WorldSource) (p : Plant) (bundles : List Bundle) (cycles : ℕ) (world : World) → IsWorldOf files source p bundles cycles world →
@@ -56,7 +58,7 @@ module _ (laws : SafeLaws) where
   world_fits files (by_file name) p bundles cycles world is = (is.is.text.fits, is.is.text.count)
 
   safe_text : (files : Option Files) (asked : RunAsked) (p : Plant) (bundles : List Bundle) (walks : List (List PortNo)) (world : World) (text : List ℕ) → 1 ≤ asked.cycles →
-      IsRun files asked p bundles walks world → IsRunText p bundles walks world text → IsSafeRunText files asked text
+      IsRun files asked p bundles walks world → IsRunText asked.pace p bundles walks world text → IsSafeRunText files asked text
   safe_text files asked p bundles walks world text some of says =
       let walked = of.sized.walked in
       let checked = walked.checked in
@@ -74,31 +76,33 @@ module _ (laws : SafeLaws) where
         is_world = of.is_world;
         is_record = says.is_record;
         says = says.says;
-        safe = laws.safe p bundles (plan_files files asked.plant p bundles checked.are) checked.accepted walks world says.log fits.0 (omega (arith, some, count)) says.is_record;
+        safe = laws.safe p bundles (plan_files files asked.plant p bundles checked.are) checked.accepted asked.pace walks world says.log fits.0 (omega (arith, some, count)) says.is_record;
       }
 
-  cause_runs : (files : Option Files) (words : List (List ℕ)) (e : Ending) (asked : RunAsked) → IsCauseOf files words e → e.status ≡ 0 → run_asked (asked_of words) ≡ Some asked →
-      IsSafeRunText files asked e.text
-  cause_runs files words _ asked (causes.usage none) zero is = absurd cc
-  cause_runs files words _ asked (causes.absent at limit next none) zero is = absurd cc
-  cause_runs files words _ asked (causes.too_long at limit next over) zero is = absurd cc
-  cause_runs files words _ asked (causes.no_plant at refusal so file) zero is = absurd cc
-  cause_runs files words _ asked (causes.malformed at fault next bad) zero is = absurd cc
-  cause_runs files words _ asked (causes.no_walk at plant fault so file holds) zero is = absurd cc
-  cause_runs files words _ asked (causes.no_clock at cycles seed plant device so file holds) zero is = absurd cc
-  cause_runs files words _ asked (causes.rejects at plant reject so file) zero is = absurd cc
-  cause_runs files words _ asked (causes.overruns at plant frame so file holds) zero is = absurd cc
-  cause_runs files words _ asked (causes.no_path other p bundles traffic so known holds) zero is = absurd cc
-  cause_runs files words _ asked (causes.wrong_world other p bundles walks at line place so named known held) zero is = absurd cc
-  cause_runs files words _ asked (causes.long_run other p bundles walks so known over) zero is = absurd cc
-  cause_runs files words _ asked (causes.plans at plant bundles text so file are says) zero is = absurd (none-some asked (sym (ap run_asked so) ∙ is))
-  cause_runs files words _ asked (causes.accepts at so file) zero is = absurd (none-some asked (sym (ap run_asked so) ∙ is))
-  cause_runs files words _ asked (causes.shows at bundle so file) zero is = absurd (none-some asked (sym (ap run_asked so) ∙ is))
-  cause_runs files words _ asked (causes.reports at cycles seed plant text so file holds) zero is = absurd (none-some asked (sym (ap run_asked so) ∙ is))
-  cause_runs files words _ asked (causes.runs other p bundles walks world text so of says) zero is =
-      subst (λ (a : RunAsked). IsSafeRunText files a text) (same_Some other asked (sym so ∙ is))
-      (safe_text files other p bundles walks world text (some_cycles (asked_of words) other (asked_few words) so) of says)
+  cause_runs : (files : Option Files) (asked : Option Command) (e : Ending) (wanted : RunAsked) → HasRanges asked → IsCauseOf files asked e → e.status ≡ 0 → run_asked asked ≡ Some wanted →
+      IsSafeRunText files wanted e.text
+  cause_runs files asked _ wanted has (causes.usage none) zero is = absurd cc
+  cause_runs files asked _ wanted has (causes.absent at limit next none) zero is = absurd cc
+  cause_runs files asked _ wanted has (causes.too_long at limit next over) zero is = absurd cc
+  cause_runs files asked _ wanted has (causes.no_plant at refusal so file) zero is = absurd cc
+  cause_runs files asked _ wanted has (causes.malformed at fault next bad) zero is = absurd cc
+  cause_runs files asked _ wanted has (causes.no_walk plant fault file holds) zero is = absurd cc
+  cause_runs files asked _ wanted has (causes.no_clock at cycles seed plant device so file holds) zero is = absurd cc
+  cause_runs files asked _ wanted has (causes.rejects at plant reject so file) zero is = absurd cc
+  cause_runs files asked _ wanted has (causes.overruns plant frame file holds) zero is = absurd cc
+  cause_runs files asked _ wanted has (causes.no_path other p bundles traffic so known holds) zero is = absurd cc
+  cause_runs files asked _ wanted has (causes.wrong_world other p bundles walks at line place so named known held) zero is = absurd cc
+  cause_runs files asked _ wanted has (causes.long_run other p bundles walks so known over) zero is = absurd cc
+  cause_runs files asked _ wanted has (causes.plans at plant bundles text so file are says) zero is = absurd (none-some wanted (sym (ap run_asked so) ∙ is))
+  cause_runs files asked _ wanted has (causes.accepts at so file) zero is = absurd (none-some wanted (sym (ap run_asked so) ∙ is))
+  cause_runs files asked _ wanted has (causes.shows at bundle so file) zero is = absurd (none-some wanted (sym (ap run_asked so) ∙ is))
+  cause_runs files asked _ wanted has (causes.reports at cycles seed plant text so file holds) zero is = absurd (none-some wanted (sym (ap run_asked so) ∙ is))
+  cause_runs files asked _ wanted has (causes.generates made bundles text so are says) zero is =
+      absurd (none-some wanted (sym (ap run_asked (gen_asked_is asked made so)) ∙ is))
+  cause_runs files asked _ wanted has (causes.runs other p bundles walks world text so of says) zero is =
+      subst (λ (a : RunAsked). IsSafeRunText files a text) (same_Some other wanted (sym so ∙ is)) (safe_text files other p bundles walks world text (some_cycles asked other has so) of says)
 
-  pub runs_safely : (c : Call) (status : ℕ) → TellsCause c status → RunsSafely c status
-  runs_safely c status (inl faulty) zero asked is = absurd (not_faulty status faulty (inl zero))
-  runs_safely c status (inr caused) zero asked is = (caused.ending.text, caused.printed, cause_runs c.files c.words caused.ending asked caused.cause (caused.status_is ∙ zero) is)
+  pub runs_safely : (c : Call) (status : ℕ) → HasRanges c.asked → TellsCause c status → RunsSafely c status
+  runs_safely c status has (inl faulty) zero wanted is = absurd (not_faulty status faulty (inl zero))
+  runs_safely c status has (inr caused) zero wanted is =
+      (caused.ending.text, caused.printed, cause_runs c.files c.asked caused.ending wanted has caused.cause (caused.status_is ∙ zero) is)

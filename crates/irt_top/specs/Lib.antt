@@ -3,6 +3,7 @@ pub mod Cause
 pub mod Check
 pub mod Commands
 pub mod DeviceFiles
+pub mod Gen
 pub mod Lines
 pub mod Plan
 pub mod PlantFile

@@ -1,4 +1,4 @@
--- The command `run`: its steps, and what it tells of a plant's files and a world.
+-- The commands `run` and `free`: their steps, and what they tell of a plant's files and a world.
 use Rattle.std.specs.Prelude.{◌≡◌, ℕ, Bool, true, false, List, [], Option, Some, None, Result, Ok, Err}
 use Rattle.irt_base.specs.Wiring.{peer_of}
 use Rattle.irt_base.specs.declared.blocks.Bundle.{Bundle}
@@ -7,12 +7,12 @@ use Rattle.irt_base.specs.declared.plants.Plant.{Plant}
 use Rattle.irt_io.specs.Files.{Files}
 use Rattle.irt_route.specs.Routes.{AreTrafficWalks, IsFirstCutTraffic}
 use Rattle.irt_steps.specs.Steps.{Ending, ending, Steps, gives, asks, after, judged}
-use Rattle.irt_words.specs.Commands.{Command, run, run_world}
+use Rattle.irt_words.specs.Commands.{Command, run, run_world, free}
 use Rattle.irt_world.specs.declared.rows.World.{World}
 use Rattle.plan_check.specs.Verdicts.{IsJudged}
 use Rattle.plan_rules.specs.Places.{IsAccepted}
 use Rattle.plan_rules.specs.declared.place.Reject.{Reject}
-use Rattle.plan_run.specs.Run.{IsRecordOf, IsRunText, text_of}
+use Rattle.plan_run.specs.Run.{IsRecordBy, IsRunText, Pace, in_lockstep, freely, text_of}
 use Rattle.plan_run.specs.Safe.{IsSafeRun}
 use Rattle.plan_run.specs.Size.{is_too_long}
 use Rattle.record_text.specs.declared.record.Record.{Record}
@@ -22,15 +22,20 @@ use Rattle.irt_top.specs.Lines.{long_run_line, no_path_line}
 use Rattle.irt_top.specs.PlantFile.{plant_steps}
 use Rattle.irt_top.specs.World.{WorldSource, by_seed, by_file, world_steps, IsWorldOf}
 
--- what `run` is asked for
+-- what a run is asked for
 pub record RunAsked : Type 0 where
+  pub pace : Pace
   pub plant : List ℕ
   pub cycles : ℕ
   pub world : WorldSource
 
 abbrev pub run_asked : Option Command → Option RunAsked
-run_asked (Some (run plant cycles seed)) = Some (record { plant = plant; cycles = cycles; world = by_seed seed })
-run_asked (Some (run_world plant cycles world)) = Some (record { plant = plant; cycles = cycles; world = by_file world })
+run_asked (Some (run plant cycles seed)) =
+    Some (record { pace = in_lockstep; plant = plant; cycles = cycles; world = by_seed seed })
+run_asked (Some (run_world plant cycles world)) =
+    Some (record { pace = in_lockstep; plant = plant; cycles = cycles; world = by_file world })
+run_asked (Some (free plant cycles seed)) =
+    Some (record { pace = freely; plant = plant; cycles = cycles; world = by_seed seed })
 run_asked asked = None
 
 -- ---- steps
@@ -67,30 +72,30 @@ abbrev pub size_steps : Plant → List Bundle → List (List PortNo) → ℕ →
 size_steps plant bundles walks cycles = judged (size_answer (is_too_long plant bundles walks cycles))
 
 -- the run itself: its record's text
-abbrev pub record_steps : Plant → List Bundle → List (List PortNo) → World → Steps (List ℕ)
-record_steps plant bundles walks world = asks (IsRunText plant bundles walks world) (λ text. gives text)
+abbrev pub record_steps : Pace → Plant → List Bundle → List (List PortNo) → World → Steps (List ℕ)
+record_steps pace plant bundles walks world = asks (IsRunText pace plant bundles walks world) (λ text. gives text)
 
 -- A world file is read where the size is right, and not before.
-abbrev pub sized_steps : ℕ → WorldSource → Plant → List Bundle → List (List PortNo) → Steps (List ℕ)
-sized_steps cycles source plant bundles walks =
-    after (world_steps source plant bundles cycles) (record_steps plant bundles walks)
+abbrev pub sized_steps : Pace → ℕ → WorldSource → Plant → List Bundle → List (List PortNo) → Steps (List ℕ)
+sized_steps pace cycles source plant bundles walks =
+    after (world_steps source plant bundles cycles) (record_steps pace plant bundles walks)
 
-abbrev pub walked_steps : ℕ → WorldSource → Plant → List Bundle → List (List PortNo) → Steps (List ℕ)
-walked_steps cycles source plant bundles walks =
-    after (size_steps plant bundles walks cycles) (λ fits. sized_steps cycles source plant bundles walks)
+abbrev pub walked_steps : Pace → ℕ → WorldSource → Plant → List Bundle → List (List PortNo) → Steps (List ℕ)
+walked_steps pace cycles source plant bundles walks =
+    after (size_steps plant bundles walks cycles) (λ fits. sized_steps pace cycles source plant bundles walks)
 
-abbrev pub ran_steps : ℕ → WorldSource → Plant → List Bundle → Steps (List ℕ)
-ran_steps cycles source plant bundles = after (walks_steps plant) (walked_steps cycles source plant bundles)
+abbrev pub ran_steps : Pace → ℕ → WorldSource → Plant → List Bundle → Steps (List ℕ)
+ran_steps pace cycles source plant bundles = after (walks_steps plant) (walked_steps pace cycles source plant bundles)
 
-abbrev pub run_plan_steps : ℕ → WorldSource → Plant → List Bundle → Steps (List ℕ)
-run_plan_steps cycles source plant bundles =
-    after (accepted_steps plant bundles) (λ accepted. ran_steps cycles source plant bundles)
+abbrev pub run_plan_steps : Pace → ℕ → WorldSource → Plant → List Bundle → Steps (List ℕ)
+run_plan_steps pace cycles source plant bundles =
+    after (accepted_steps plant bundles) (λ accepted. ran_steps pace cycles source plant bundles)
 
-abbrev pub run_plant_steps : ℕ → WorldSource → Plant → Steps (List ℕ)
-run_plant_steps cycles source plant = after (bundles_steps plant.devices []) (run_plan_steps cycles source plant)
+abbrev pub run_plant_steps : Pace → ℕ → WorldSource → Plant → Steps (List ℕ)
+run_plant_steps pace cycles source plant = after (bundles_steps plant.devices []) (run_plan_steps pace cycles source plant)
 
-abbrev pub run_steps : List ℕ → ℕ → WorldSource → Steps (List ℕ)
-run_steps name cycles source = after (plant_steps name) (run_plant_steps cycles source)
+abbrev pub run_steps : Pace → List ℕ → ℕ → WorldSource → Steps (List ℕ)
+run_steps pace name cycles source = after (plant_steps name) (run_plant_steps pace cycles source)
 
 -- ---- what the files are
 
@@ -114,7 +119,7 @@ pub record IsRun (files : Option Files) (asked : RunAsked) (plant : Plant) (bund
   pub sized : IsSizedPlan files asked plant bundles walks
   pub is_world : IsWorldOf files asked.world plant bundles asked.cycles world
 
--- What `run` printed: the text of a record.
+-- What a run printed: the text of a record.
 pub record IsSafeRunText (files : Option Files) (asked : RunAsked) (text : List ℕ) : Type 0 where
   pub plant : Plant
   pub bundles : List Bundle
@@ -129,10 +134,11 @@ pub record IsSafeRunText (files : Option Files) (asked : RunAsked) (text : List 
   pub are_walks : AreTrafficWalks (peer_of plant) plant.traffic walks
   -- The world is that of the words, with as many cycles.
   pub is_world : IsWorldOf files asked.world plant bundles asked.cycles world
-  -- The record is that of the lockstep run of these blocks over this world, with the plant's applications.
-  pub is_record : IsRecordOf plant bundles walks world log
+  -- The record is that of the lockstep run of these blocks over this world, with the plant's applications; or it is a
+  -- legal one, where each application has a thread of its own.
+  pub is_record : IsRecordBy asked.pace plant bundles walks world log
   pub says : text ≡ text_of plant log
   -- Over this world no two frames or parcels occupy a link direction at once; each due frame reaches exactly its
   -- receivers with a live route, by its planned time; and each buffer taken is whole, one publication, never older than
-  -- the last, of its planned cycle.
-  pub safe : IsSafeRun plant bundles walks world log
+  -- the last, of its planned cycle where taken inside its window.
+  pub safe : IsSafeRun asked.pace plant bundles walks world log

@@ -3,10 +3,11 @@
 
 mod check;
 mod files;
+mod generate;
 mod line;
 mod plan;
-mod run;
+pub mod run;
 mod show;
 mod sync;
 pub mod top;
-mod world;
+pub mod world;

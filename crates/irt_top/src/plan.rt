@@ -57,7 +57,7 @@ fn plan_plant<S: Shelf>(alloc: Global, shelf: &mut S, plant: &Plant) -> Result<V
 }
 
 /// First fit's bundles of a plant.
-fn planned(alloc: Global, plant: &Plant) -> Result<Items<Bundle>, Stop>
+pub fn planned(alloc: Global, plant: &Plant) -> Result<Items<Bundle>, Stop>
     requires { MeetsRules plant.now }
     ensures step { Decides (λ bs. bs) (planning_steps plant.now) result }
     ensures calm { IfErr result IsNoFault }

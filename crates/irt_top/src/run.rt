@@ -1,6 +1,7 @@
-//! The command `run`: a plant and its devices' files, a world, and the record of the lockstep run over it.
+//! The commands `run` and `free`: a plant and its devices' files, a world, and the record of a run over it.
 
-ghost use Rattle.std.specs.Prelude.{◌≡◌, ◌≤◌, IfOk, IfErr};
+ghost use Rattle.std.specs.Prelude.{◌≡◌, IfOk, IfErr};
+ghost use Rattle.irt_base.specs.Valid.{IsWithin};
 ghost use Rattle.irt_base.specs.declared.limits.TheConstants.{MAX_CYCLES};
 ghost use Rattle.irt_io.specs.Fault.{IsLater};
 ghost use Rattle.irt_route.specs.Routes.{IsRoutesOf};
@@ -27,53 +28,54 @@ use irt_steps::stop::{Cause, Stop};
 use plan_check::accepted::Accepted;
 use plan_check::check::{Verdict, check};
 use plan_run::law::accepted_plans_reach_consumers;
-use plan_run::run::run_text;
+use plan_run::run::Runs;
 use plan_run::size::is_too_long;
 use std::alloc::Global;
-use std::thread::Threads;
 
-/// The record of the run of a plant's blocks over a world of so many cycles.
-pub fn run<R: Threads + Sync, S: Shelf>(
-    rt: &R,
+/// The record of a run of a plant's blocks over a world of so many cycles, in its way.
+pub fn run<T: Runs, S: Shelf>(
+    way: &T,
     alloc: Global,
     shelf: &mut S,
     name: &str,
     cycles: u32,
     world: WorldAsked<'_>,
 ) -> Result<Vec<u8>, Stop>
-    requires { cycles ≤ MAX_CYCLES }
-    ensures step { Follows (λ v. v.items) (run_steps name.now cycles (source_of world.entry)) (S.files shelf.old) (S.files shelf.new) result }
+    requires ready { T.can_run }
+    requires cycles { IsWithin 1 MAX_CYCLES cycles }
+    ensures step { Follows (λ v. v.items) (run_steps T.pace name.now cycles (source_of world.entry)) (S.files shelf.old) (S.files shelf.new) result }
     ensures kept { S.files shelf.new ≡ S.files shelf.old }
     ensures cause { HasCause (S.faults shelf.old) (S.faults shelf.new) result }
     ensures later { IsLater (S.faults shelf.old) (S.faults shelf.new) }
 {
     let plant = load_plant(alloc, shelf, name)?;
-    run_plant(rt, alloc, shelf, &plant, cycles, world)
+    run_plant(way, alloc, shelf, &plant, cycles, world)
 }
 
 /// The same of a plant that was read.
-fn run_plant<R: Threads + Sync, S: Shelf>(
-    rt: &R,
+fn run_plant<T: Runs, S: Shelf>(
+    way: &T,
     alloc: Global,
     shelf: &mut S,
     plant: &Plant,
     cycles: u32,
     world: WorldAsked<'_>,
 ) -> Result<Vec<u8>, Stop>
+    requires ready { T.can_run }
     requires rules { MeetsRules plant.now }
-    requires cycles { cycles ≤ MAX_CYCLES }
-    ensures step { Follows (λ v. v.items) (run_plant_steps cycles (source_of world.entry) plant.now) (S.files shelf.old) (S.files shelf.new) result }
+    requires cycles { IsWithin 1 MAX_CYCLES cycles }
+    ensures step { Follows (λ v. v.items) (run_plant_steps T.pace cycles (source_of world.entry) plant.now) (S.files shelf.old) (S.files shelf.new) result }
     ensures kept { S.files shelf.new ≡ S.files shelf.old }
     ensures cause { HasCause (S.faults shelf.old) (S.faults shelf.new) result }
     ensures later { IsLater (S.faults shelf.old) (S.faults shelf.new) }
 {
     let bundles = load_bundles(alloc, shelf, plant.devices.as_slice(), Items::new(alloc))?;
-    run_plan(rt, alloc, shelf, plant, bundles.as_slice(), cycles, world)
+    run_plan(way, alloc, shelf, plant, bundles.as_slice(), cycles, world)
 }
 
 /// The same of a plan that was read.
-fn run_plan<R: Threads + Sync, S: Shelf>(
-    rt: &R,
+fn run_plan<T: Runs, S: Shelf>(
+    way: &T,
     alloc: Global,
     shelf: &mut S,
     plant: &Plant,
@@ -81,15 +83,16 @@ fn run_plan<R: Threads + Sync, S: Shelf>(
     cycles: u32,
     world: WorldAsked<'_>,
 ) -> Result<Vec<u8>, Stop>
+    requires ready { T.can_run }
     requires plan { IsPlan plant.now bundles.now }
-    requires cycles { cycles ≤ MAX_CYCLES }
-    ensures step { Follows (λ v. v.items) (run_plan_steps cycles (source_of world.entry) plant.now bundles.now) (S.files shelf.old) (S.files shelf.new) result }
+    requires cycles { IsWithin 1 MAX_CYCLES cycles }
+    ensures step { Follows (λ v. v.items) (run_plan_steps T.pace cycles (source_of world.entry) plant.now bundles.now) (S.files shelf.old) (S.files shelf.new) result }
     ensures kept { S.files shelf.new ≡ S.files shelf.old }
     ensures cause { HasCause (S.faults shelf.old) (S.faults shelf.new) result }
     ensures later { IsLater (S.faults shelf.old) (S.faults shelf.new) }
 {
     let accepted = accepted(alloc, plant, bundles)?;
-    run_accepted(rt, alloc, shelf, &accepted, cycles, world)
+    run_accepted(way, alloc, shelf, &accepted, cycles, world)
 }
 
 /// The plan, where the rules accept it.
@@ -105,23 +108,24 @@ fn accepted(alloc: Global, plant: &Plant, bundles: &[Bundle]) -> Result<Accepted
     }
 }
 
-/// The record of the run of an accepted plan.
-fn run_accepted<R: Threads + Sync, S: Shelf>(
-    rt: &R,
+/// The record of a run of an accepted plan.
+fn run_accepted<T: Runs, S: Shelf>(
+    way: &T,
     alloc: Global,
     shelf: &mut S,
     accepted: &Accepted,
     cycles: u32,
     world: WorldAsked<'_>,
 ) -> Result<Vec<u8>, Stop>
-    requires { cycles ≤ MAX_CYCLES }
-    ensures step { Follows (λ v. v.items) (ran_steps cycles (source_of world.entry) accepted.now.plant accepted.now.bundles) (S.files shelf.old) (S.files shelf.new) result }
+    requires ready { T.can_run }
+    requires cycles { IsWithin 1 MAX_CYCLES cycles }
+    ensures step { Follows (λ v. v.items) (ran_steps T.pace cycles (source_of world.entry) accepted.now.plant accepted.now.bundles) (S.files shelf.old) (S.files shelf.new) result }
     ensures kept { S.files shelf.new ≡ S.files shelf.old }
     ensures cause { HasCause (S.faults shelf.old) (S.faults shelf.new) result }
     ensures later { IsLater (S.faults shelf.old) (S.faults shelf.new) }
 {
     let routes = walked(alloc, accepted)?;
-    run_walked(rt, alloc, shelf, accepted, &routes, cycles, world)
+    run_walked(way, alloc, shelf, accepted, &routes, cycles, world)
 }
 
 /// The routes of an accepted plan. All its consumers are reached.
@@ -142,9 +146,9 @@ fn walked(alloc: Global, accepted: &Accepted) -> Result<Routes, Stop>
     }
 }
 
-/// The record of the run along the plan's routes.
-fn run_walked<R: Threads + Sync, S: Shelf>(
-    rt: &R,
+/// The record of a run along the plan's routes.
+fn run_walked<T: Runs, S: Shelf>(
+    way: &T,
     alloc: Global,
     shelf: &mut S,
     accepted: &Accepted,
@@ -152,21 +156,22 @@ fn run_walked<R: Threads + Sync, S: Shelf>(
     cycles: u32,
     world: WorldAsked<'_>,
 ) -> Result<Vec<u8>, Stop>
+    requires ready { T.can_run }
     requires routes { IsRoutesOf accepted.now.plant routes.now }
-    requires cycles { cycles ≤ MAX_CYCLES }
-    ensures step { Follows (λ v. v.items) (walked_steps cycles (source_of world.entry) accepted.now.plant accepted.now.bundles routes.now.walks) (S.files shelf.old) (S.files shelf.new) result }
+    requires cycles { IsWithin 1 MAX_CYCLES cycles }
+    ensures step { Follows (λ v. v.items) (walked_steps T.pace cycles (source_of world.entry) accepted.now.plant accepted.now.bundles routes.now.walks) (S.files shelf.old) (S.files shelf.new) result }
     ensures kept { S.files shelf.new ≡ S.files shelf.old }
     ensures cause { HasCause (S.faults shelf.old) (S.faults shelf.new) result }
     ensures later { IsLater (S.faults shelf.old) (S.faults shelf.new) }
 {
     fit_size(alloc, accepted, routes, cycles)?;
-    run_sized(rt, alloc, shelf, accepted, routes, cycles, world)
+    run_sized(way, alloc, shelf, accepted, routes, cycles, world)
 }
 
 /// Ends the command where the run is too long.
 fn fit_size(alloc: Global, accepted: &Accepted, routes: &Routes, cycles: u32) -> Result<(), Stop>
     requires routes { IsRoutesOf accepted.now.plant routes.now }
-    requires cycles { cycles ≤ MAX_CYCLES }
+    requires cycles { IsWithin 1 MAX_CYCLES cycles }
     ensures step { Decides (λ u. u) (size_steps accepted.now.plant accepted.now.bundles routes.now.walks cycles) result }
     ensures calm { IfErr result IsNoFault }
 {
@@ -177,8 +182,8 @@ fn fit_size(alloc: Global, accepted: &Accepted, routes: &Routes, cycles: u32) ->
 }
 
 /// The record of a run that is not too long.
-fn run_sized<R: Threads + Sync, S: Shelf>(
-    rt: &R,
+fn run_sized<T: Runs, S: Shelf>(
+    way: &T,
     alloc: Global,
     shelf: &mut S,
     accepted: &Accepted,
@@ -186,13 +191,14 @@ fn run_sized<R: Threads + Sync, S: Shelf>(
     cycles: u32,
     world: WorldAsked<'_>,
 ) -> Result<Vec<u8>, Stop>
+    requires ready { T.can_run }
     requires routes { IsRoutesOf accepted.now.plant routes.now }
-    requires cycles { cycles ≤ MAX_CYCLES }
-    ensures step { Follows (λ v. v.items) (sized_steps cycles (source_of world.entry) accepted.now.plant accepted.now.bundles routes.now.walks) (S.files shelf.old) (S.files shelf.new) result }
+    requires cycles { IsWithin 1 MAX_CYCLES cycles }
+    ensures step { Follows (λ v. v.items) (sized_steps T.pace cycles (source_of world.entry) accepted.now.plant accepted.now.bundles routes.now.walks) (S.files shelf.old) (S.files shelf.new) result }
     ensures kept { S.files shelf.new ≡ S.files shelf.old }
     ensures cause { HasCause (S.faults shelf.old) (S.faults shelf.new) result }
     ensures later { IsLater (S.faults shelf.old) (S.faults shelf.new) }
 {
     let world = world_of(alloc, shelf, accepted, cycles, world)?;
-    Ok(run_text(rt, alloc, accepted, routes, world)?)
+    Ok(way.run_text(alloc, accepted, routes, world)?)
 }

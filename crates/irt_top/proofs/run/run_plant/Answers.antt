@@ -13,12 +13,12 @@ use Rattle.irt_top.proofs.run.run_plant.Goals as goal
 pub returns-in_err-bundles-clause-step : goal.returns-in_err-bundles-clause-step
 returns-in_err-bundles-clause-step g c =
     let p = err_from_is_err_and c.from_residual.result c.from_residual.ensures.1 in
-    rw (p.1, p.2) (follow_stop (λ bs. bs) (λ (v : Vec ℕ). v.items) (bundles_steps c.args.plant.now.devices []) (run_plan_steps c.args.cycles (source_of c.args.world) c.args.plant.now) _ _ _
+    rw (p.1, p.2) (follow_stop (λ bs. bs) (λ (v : Vec ℕ). v.items) (bundles_steps c.args.plant.now.devices []) (run_plan_steps g.T.Runs.pace c.args.cycles (source_of c.args.world) c.args.plant.now) _ _ _
     (from_none c.args.plant.now.devices _ _ _ _ (Err c.in_err-bundles.field-0.0) c.as_slice.ensures c.new.ensures c.in_err-bundles.ensures.step))
 
 pub returns-clause-step : goal.returns-clause-step
 returns-clause-step g c =
-    follow_on (λ bs. bs) (λ (v : Vec ℕ). v.items) (bundles_steps c.args.plant.now.devices []) (run_plan_steps c.args.cycles (source_of c.args.world) c.args.plant.now) _ _ _
+    follow_on (λ bs. bs) (λ (v : Vec ℕ). v.items) (bundles_steps c.args.plant.now.devices []) (run_plan_steps g.T.Runs.pace c.args.cycles (source_of c.args.world) c.args.plant.now) _ _ _
     c.in_ok-bundles.bundles _
     (from_none c.args.plant.now.devices _ _ _ _ (Ok c.in_ok-bundles.bundles) c.as_slice.ensures c.new.ensures c.in_ok-bundles.ensures.step)
-    (follow_plan c.args.plant.now _ _ c.args.cycles (source_of c.args.world) _ _ _ c.as_slice-2.ensures c.run_plan.ensures.step)
+    (follow_plan g.T.Runs.pace c.args.plant.now _ _ c.args.cycles (source_of c.args.world) _ _ _ c.as_slice-2.ensures c.run_plan.ensures.step)
