@@ -4,7 +4,7 @@
 use irt_io::folder::FolderShelf;
 use irt_io::stdout::StdSink;
 use irt_steps::finish::NO_MEMORY;
-use irt_top::top::irt_calm;
+use irt_wait::irt;
 use std::alloc::Global;
 use std::io::ErrorKind;
 use std::process::ExitCode;
@@ -22,7 +22,7 @@ fn main(rt: HostRuntime) -> ExitCode {
     };
     let mut shelf = FolderShelf::new(rt, alloc);
     let mut sink = StdSink::new(rt);
-    let status = irt_calm(&rt, alloc, words.as_slice(), &mut shelf, &mut sink);
+    let status = irt(&rt, alloc, words.as_slice(), &mut shelf, &mut sink);
     ExitCode::from(status.0)
 }
 

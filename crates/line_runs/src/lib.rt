@@ -5,8 +5,9 @@ use anyhow::Result;
 use irt_io::shelf::Shelf;
 use irt_io::sink::Sink;
 use irt_steps::print::print_text;
-use irt_top::top::irt_calm;
+use irt_wait::irt;
 use std::alloc::{AllocError, Global};
+use std::sync::Wait;
 use std::thread::Threads;
 
 /// The file of the lines, and the most bytes that it may have.
@@ -18,7 +19,7 @@ const LINES_FILE: usize = 65536;
 ///
 /// # Errors
 /// The file can't be had or is no text, the sink failed, or memory ran out.
-pub fn run_lines<R: Threads + Sync, S: Shelf, K: Sink>(
+pub fn run_lines<R: Threads + Wait + Sync, S: Shelf, K: Sink>(
     rt: &R,
     alloc: Global,
     shelf: &mut S,
@@ -30,7 +31,7 @@ pub fn run_lines<R: Threads + Sync, S: Shelf, K: Sink>(
         let asked = format!(in alloc; "$ irt {line}\n")?;
         print_text(sink, asked.as_bytes())?;
         let words = words_of(alloc, line)?;
-        let status = irt_calm(rt, alloc, words.as_slice(), shelf, sink);
+        let status = irt(rt, alloc, words.as_slice(), shelf, sink);
         let ended = format!(in alloc; "status {}\n", status.0)?;
         print_text(sink, ended.as_bytes())?;
     }

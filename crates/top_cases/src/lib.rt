@@ -1,8 +1,6 @@
-//! What the top call does with a sink that fails, words of later commands, and plans of generated plants.
+//! What the top call does with a sink that fails, and with words of the command that waits.
 #![tactic(auto)]
 
-#[cfg(test)]
-mod plans;
 #[cfg(test)]
 mod sink;
 #[cfg(test)]

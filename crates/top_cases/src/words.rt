@@ -1,7 +1,8 @@
-//! Words of the commands that the program doesn't do yet.
+//! Words of `free`, which are no command where nobody may wait.
 
-use irt_words::asked::Asked;
-use irt_words::reading::read_words;
+use irt_io::mem_shelf::MemShelf;
+use irt_io::mem_sink::MemSink;
+use irt_top::top::irt_calm;
 use std::alloc::{AllocError, Global};
 use std::test::Fail;
 
@@ -15,45 +16,13 @@ pub fn words(alloc: Global, text: &str) -> Result<Vec<String>, AllocError> {
 }
 
 #[test]
-fn words_of_later_commands(rt: HostRuntime) -> Result<(), Fail> {
+fn free_waits(rt: HostRuntime) -> Result<(), Fail> {
     let alloc = rt.alloc();
-    let world = Asked::RunWorld {
-        plant: "p",
-        cycles: 12,
-        world: "w",
-    };
-    for (text, wanted) in [
-        ("run p 12 --world w", world),
-        ("run --world w p 12", world),
-        (
-            "run p 10000 18446744073709551615",
-            Asked::Run {
-                plant: "p",
-                cycles: 10000,
-                seed: u64::MAX,
-            },
-        ),
-        (
-            "gen 7 64 512 n",
-            Asked::Gen {
-                seed: 7,
-                devices: 64,
-                frames: 512,
-                name: "n",
-            },
-        ),
-        (
-            "free p 1 0",
-            Asked::Free {
-                plant: "p",
-                cycles: 1,
-                seed: 0,
-            },
-        ),
-    ] {
-        let texts = words(alloc, text)?;
-        let asked = read_words(alloc, texts.as_slice())?;
-        assert_eq!(rt; asked, Some(wanted), "{text}");
-    }
+    let asked = words(alloc, "free p 1 0")?;
+    let mut shelf = MemShelf::new(alloc, &[])?;
+    let mut sink = MemSink::new(alloc, 64, &[])?;
+    let status = irt_calm(&rt, alloc, asked.as_slice(), &mut shelf, &mut sink);
+    assert_eq!(rt; status.0, 1);
+    assert_eq!(rt; sink.bytes(), b"usage\n".as_slice());
     Ok(())
 }
