@@ -41,17 +41,91 @@ def counted():
     """A counter on a, a copy on b; the link is cut in cycle 2. b holds what came last, and takes a turn's output a cycle later."""
     n = 506
     one_frame(n, [("a", "counter"), ("b", "copy")])
-    text = ""
-    shown = [(0, 0, 0, 0, 0), (1, 0, 0, 0, 0x80), (1, 0, 0, 0, 0x80)]
-    for k in range(3):
-        out = (k, 0, 0, 0, 0x80 if k else 0)
-        text += f"g {k} a{n} {k} {int(k > 0)} 1{words(*out)}\ng {k} b{n} {k} {int(k > 0)} 1\n"
-        text += row(n, k, k != 2) + f"i {k} a{n}\ni {k} b{n}{words(*shown[k])}\n"
-    for turn in range(3):
-        text += f"u a{n} {turn} {turn + 1} {turn + 1} 1 1 :{words(turn + 1, 0, 0, 0, 0x80)}\n"
-    for turn in range(3):
-        text += f"u b{n} {turn} {turn + 1} {turn + 1} 1 1{words(*shown[turn])} :\n"
-    return (world(n, "E 0 0 B C", "E 0 0 B C", "E 0 0 B C 0"), 0, text + "end 3 3 2 0\n")
+    text = chain(n, [("a", "counter", 0), ("b", "copy", 0)], 1, [False, False, True])
+    return (world(n, "E 0 0 B C", "E 0 0 B C", "E 0 0 B C 0"), 0, text)
+
+
+ZEROS = (0, 0, 0, 0, 0)  # the words of a frame of 40 bytes
+
+
+def turned(kind, param, state, given):
+    """The words that an application puts out for what it is shown, sealed, and its next state."""
+    first = given[0] if given else 0
+    if kind == "copy":
+        return (*given[:4], given[4] // 256 * 256 + 0x80), state
+    if kind == "counter":
+        state = word = state + 1
+    elif kind == "follow":
+        state = word = min(first, state + param) if state <= first else max(first, state - param)
+    else:
+        word = min(first, param)
+    return (word, 0, 0, 0, 0x80), state
+
+
+def chain(n, apps, ratio, cut):
+    """Applications of which each but the last sends the next one a frame, in the cycles that are multiples of `ratio`, which
+    doesn't come where the cycle is cut. What came last is shown until three due frames in a row didn't come."""
+    names = [f"{letter}{n}" for letter, _, _ in apps]
+    states = [0] * len(apps)
+    puts = [ZEROS] * (len(apps) - 1) + [()]
+    shown = [()] + [ZEROS] * (len(apps) - 1)
+    missed = 3
+    text, turns = "", [""] * len(apps)
+    for k, is_cut in enumerate(cut):
+        flags = f"{k} {int(k > 0)} 1"
+        text += "".join(f"g {k} {name} {flags}{words(*put)}\n" for name, put in zip(names, puts))
+        begin = k * 1000000
+        if k % ratio == 0:
+            ways = [(name, int(place > 0) + 1, 0x100 + place) for place, name in enumerate(names[:-1])]
+            text += "".join(f"o {k} {name} {port} {frame:#06x} {begin} {begin + 6720}\n" for name, port, frame in ways)
+            if not is_cut:
+                ends = [(name, 0x100 + place) for place, name in enumerate(names[1:])]
+                text += "".join(f"d {k} {name} {frame:#06x} {begin + 7520}\n" for name, frame in ends)
+                shown = [(), *puts[:-1]]
+            missed = missed + 1 if is_cut else 0
+            if missed >= 3:
+                shown = [()] + [ZEROS] * (len(apps) - 1)
+        text += "".join(f"i {k} {name}{words(*image)}\n" for name, image in zip(names, shown))
+        for place, (_, kind, param) in enumerate(apps):
+            put, states[place] = turned(kind, param, states[place], shown[place])
+            puts[place] = put if place + 1 < len(apps) else ()
+            turns[place] += f"u {names[place]} {k} {k + 1} {k + 1} 1 1{words(*shown[place])} :{words(*puts[place])}\n"
+    due = [is_cut for k, is_cut in enumerate(cut) if k % ratio == 0]
+    links = len(apps) - 1
+    end = f"end {len(cut)} {links * len(due)} {links * due.count(False)} 0\n"
+    return text + "".join(turns) + end
+
+
+def kinds():
+    """A counter feeds a follower, that one a limit, and that one a copy."""
+    n = 514
+    case = Case(n).head().device("a").device("b", 2).device("c", 2).device("d")
+    case.link("a", 1, "b", 1).link("b", 2, "c", 1).link("c", 2, "d", 1)
+    for place, (start, end) in enumerate(("ab", "bc", "cd")):
+        case.demand(0x100 + place, start, end)
+    apps = [("a", "counter", 0), ("b", "follow", 2), ("c", "limit", 3), ("d", "copy", 0)]
+    for letter, kind, param in apps:
+        case.text += f'[[app]]\ndevice = "{case.name(letter)}"\nkind = "{kind}"\nparam = {param}\n'
+    case.save()
+    case.give("a", [FRAME])
+    case.give("b", [TAKEN, (0x101, 0, 1, 1, 0, 4)])
+    case.give("c", [(0x101, 0, 1, 1, 1, 1), (0x102, 0, 1, 1, 0, 4)])
+    case.give("d", [(0x102, 0, 1, 1, 1, 1)])
+    return (world(n, *["E 0 0 0 0 B C"] * 7), 0, chain(n, apps, 1, [False] * 7))
+
+
+def held():
+    """A frame of every other cycle, over a cut of three due cycles and more."""
+    n = 515
+    case = Case(n).pair().demand(0x100, "a", "b", update=2000000)
+    apps = [("a", "counter", 0), ("b", "copy", 0)]
+    for letter, kind, _ in apps:
+        case.text += f'[[app]]\ndevice = "{case.name(letter)}"\nkind = "{kind}"\n'
+    case.save()
+    case.give("a", [(0x100, 0, 2, 1, 0, 2)])
+    case.give("b", [(0x100, 0, 2, 1, 1, 1)])
+    cut = [3 <= k <= 9 for k in range(12)]
+    return (world(n, *["E 0 0 B C 0" if is_cut else "E 0 0 B C" for is_cut in cut]), 0, chain(n, apps, 2, cut))
 
 
 def too_long():
@@ -152,6 +226,31 @@ def no_path():
     return [("run p509.toml 5 1", 6, "no path 0\n")]
 
 
+def generated():
+    """Plants by a seed: the smallest, and one of 64 devices and 256 frames; names that can't be stored."""
+    return [
+        ("gen 1 2 0 g1.toml", 0, "gen 2 0\nred 0\nend 16 0 0 0\n"),
+        ("check g1.toml", 3, "absent d0.ird\n"),
+        ("plan g1.toml", 0, "red 0\n"),
+        ("check g1.toml", 0, "ACCEPT\n"),
+        ("gen 7 64 256 g2.toml", 0, "gen 64 256\nred 319654\nend 16 7740 1984 0\n"),
+        ("gen 7 2 1 none/g.toml", 2, "shelf fault none/g.toml\n"),
+        ("gen 7 2 1 .", 2, "shelf fault .\n"),
+    ]
+
+
+def free():
+    """Free runs of plants without applications have one text; refusals are those of `run`."""
+    return [
+        ("free p500.toml 5 1", 0, "end 5 0 0 0\n"),
+        ("free p2.toml 2 1", 8, "REJECT V6 a2 1 0x0100 0x0101\n"),
+        ("free p507.toml 10000 1", 11, "run too long\n"),
+        ("free p509.toml 5 1", 6, "no path 0\n"),
+        ("free none.toml 5 1", 3, "absent none.toml\n"),
+        ("free other.toml 5 1", 5, "plant not toml\n"),
+    ]
+
+
 def runs():
     case = Case(500).pair().save()
     case.give("a", [])
@@ -167,4 +266,4 @@ def runs():
     made.append(("run p504.toml 3 --world w501", 10, "world 3 0\n"))
     made.append(("run p504.toml 2 --world none.w", 3, "absent none.w\n"))
     made.append(("run p2.toml 2 1", 8, "REJECT V6 a2 1 0x0100 0x0101\n"))
-    return made + [counted()] + too_long() + [parcels(), full(), drained(), cut_in_the_middle(), at_once()] + no_path()
+    return made + [counted(), kinds(), held()] + too_long() + [parcels(), full(), drained(), cut_in_the_middle(), at_once()] + no_path() + free() + generated()
