@@ -12,6 +12,7 @@ use Rattle.irt_base.specs.Wiring.{peer_of}
 use Rattle.irt_net.proofs.Begun.{all_at, all_from, same_map, there}
 use Rattle.irt_net.proofs.Carrying.{pending_same}
 use Rattle.irt_net.specs.Net.{HasRoomFor, IsReached, IsSameNet, NetState, PlaysCycle}
+use Rattle.irt_net.specs.Parts.{HavePlayed}
 use Rattle.irt_net.specs.Whole.{IsGated, IsWhole, walks_of}
 use Rattle.irt_route.specs.Routes.{AreTrafficWalks}
 use Rattle.irt_switch.specs.State.{SwitchState}
@@ -39,12 +40,13 @@ KeepsRoom = (plant : Plant) (bundles : List Bundle) → MeetsRules plant → (wa
     ≤ pending plant walks (loads_at plant bundles walks world k) + most_rows plant walks
 
 -- what the frames of a cycle leave
-pub record FramesLeave (site : SiteState) (row : Row) (k : ℕ) (old new : List SwitchState) (came : List Came) (before after : Written) : Type 0 where
+pub record FramesLeave (site : SiteState) (row : Row) (k : ℕ) (old new : List SwitchState) (queue : Waiting) (came : List Came) (before after : Written) : Type 0 where
   pub rows : GrowsByFrames site.plant (bundles_of old) row k before after
   pub come : (world : List WorldRow) → IsPlayIn (play_in site.plant (bundles_of old) row k) world → HaveCome (setup_of site.plant (bundles_of old)) world k came
   pub blocks : bundles_of new ≡ bundles_of old
   pub gated : All IsGated new
   pub gates : (gates : Gates) → HoldGates site.plant old gates → HoldGates site.plant new gates
+  pub ready : IsReadyFor (most_frames site.plant (bundles_of old)) queue
 
 -- what its parcels leave
 pub record ParcelsLeave (site : SiteState) (row : Row) (k : ℕ) (old new : List SwitchState) (p q : ParcelsState) (before after : Written) : Type 0 where
@@ -63,6 +65,12 @@ net_of site switches parcels came most = record {
   came = came;
   most = most;
 }
+
+-- what both leave
+pub record CycleLeaves (site : SiteState) (row : Row) (k : ℕ) (old : NetState) (switches : List SwitchState) (parcels : ParcelsState) (queue : Waiting)
+    (came : List Came) (cap most : ℕ) (before after : Written) : Type 0 where
+  pub whole : IsWhole site switches parcels queue cap most
+  pub played : HavePlayed row k old (net_of site switches parcels came most) before after
 
 -- where the parcels are before the first cycle, room for so many cycles is room enough
 pub reserved : (law : (plant : Plant) (walks : List (List PortNo)) → pending plant walks no_loads ≡ 0) (site : SiteState) (s : List SwitchState) (p : ParcelsState)
@@ -85,7 +93,7 @@ played_at site row s p queue cap most whole fits = record { plan = whole.plan; a
 
 module _ (law : KeepsRoom) (site : SiteState) (row : Row) (k : ℕ) (s0 s1 : List SwitchState) (p : ParcelsState) (q0 q1 : Waiting) (cap most : ℕ)
     (was came : List Came) (j0 j1 : Written) (whole : IsWhole site s0 p q0 cap most) (reached : IsReached (net_of site s0 p was most) row k)
-    (room : HasRoomFor (net_of site s0 p was most) 1 j0.room) (frames : FramesLeave site row k s0 s1 came j0 j1) where
+    (room : HasRoomFor (net_of site s0 p was most) 1 j0.room) (frames : FramesLeave site row k s0 s1 q1 came j0 j1) where
   abbrev L0 : Loads
   L0 = loads_at site.plant (bundles_of s0) (walks_of p.steps) reached.world k
 
@@ -123,8 +131,7 @@ module _ (law : KeepsRoom) (site : SiteState) (row : Row) (k : ℕ) (s0 s1 : Lis
         omega arith;
   }
 
-  module _ (s2 : List SwitchState) (q : ParcelsState) (cap1 : ℕ) (j2 : Written) (ready : IsReadyFor (most_frames site.plant (bundles_of s0)) q1)
-      (noted : cap1 ≡ cap) (parcels : ParcelsLeave site row k s1 s2 p q j1 j2) where
+  module _ (s2 : List SwitchState) (q : ParcelsState) (cap1 : ℕ) (j2 : Written) (noted : cap1 ≡ cap) (parcels : ParcelsLeave site row k s1 s2 p q j1 j2) where
     blocks_after : bundles_of s2 ≡ bundles_of s0
     blocks_after =
         same_map (λ (s : SwitchState). s.bundle) s1 s2 parcels.switches.count (λ n x y was is. (parcels.switches.each n x y was is).bundle) ∙ frames.blocks
@@ -138,7 +145,7 @@ module _ (law : KeepsRoom) (site : SiteState) (row : Row) (k : ℕ) (s0 s1 : Lis
     steps_after : q.steps ≡ p.steps
     steps_after = ap (λ (x : ParcelsState). x.steps) parcels.kept
 
-    pub whole_after : IsWhole site s2 q q1 cap1 most
+    whole_after : IsWhole site s2 q q1 cap1 most
     whole_after =
         let old : IsWhole site s0 p q1 cap1 most = record {
           plan = whole.plan;
@@ -148,7 +155,7 @@ module _ (law : KeepsRoom) (site : SiteState) (row : Row) (k : ℕ) (s0 s1 : Lis
           made = whole.made;
           steps = whole.steps;
           walks = whole.walks;
-          ready = ready;
+          ready = frames.ready;
           noted = subst (λ (n : ℕ). most_frames site.plant (bundles_of s0) ≤ n) (sym noted) whole.noted;
           rows = whole.rows;
         } in record {
@@ -168,7 +175,7 @@ module _ (law : KeepsRoom) (site : SiteState) (row : Row) (k : ℕ) (s0 s1 : Lis
     pub count_after : length s2 ≡ length s0
     count_after = sym (length-map s2 (λ (s : SwitchState). s.bundle)) ∙ ap length blocks_after ∙ length-map s0 (λ (s : SwitchState). s.bundle)
 
-    pub same_net : IsSameNet (net_of site s0 p was most) (net_of site s2 q came most)
+    same_net : IsSameNet (net_of site s0 p was most) (net_of site s2 q came most)
     same_net = record { plant = refl; bundles = blocks_after; walks = ap walks_of steps_after; most = refl }
 
     grown : (loads : Loads) → HoldLoads site.plant s0 p.flight loads → GrowsByParcels site.plant (bundles_of s0) (walks_of p.steps) row k loads j1 j2 s2 q.flight
@@ -176,7 +183,7 @@ module _ (law : KeepsRoom) (site : SiteState) (row : Row) (k : ℕ) (s0 s1 : Lis
         subst (λ b. GrowsByParcels site.plant b (walks_of p.steps) row k loads j1 j2 s2 q.flight) frames.blocks
         (parcels.parcels (walks_of p.steps) loads whole.steps (held loads hold))
 
-    pub plays : (world : List WorldRow) (loads : Loads) → IsPlayIn (play_in site.plant (bundles_of s0) row k) world → HoldLoads site.plant s0 p.flight loads →
+    plays : (world : List WorldRow) (loads : Loads) → IsPlayIn (play_in site.plant (bundles_of s0) row k) world → HoldLoads site.plant s0 p.flight loads →
         PlaysCycle world k loads (net_of site s0 p was most) (net_of site s2 q came most) j0 j2
     plays world loads played hold =
         let more = grown loads hold in record {
@@ -189,7 +196,7 @@ module _ (law : KeepsRoom) (site : SiteState) (row : Row) (k : ℕ) (s0 s1 : Lis
           came = frames.come world played;
         }
 
-    pub room_after : (cycles : ℕ) → HasRoomFor (net_of site s0 p was most) (cycles + 1) j0.room → HasRoomFor (net_of site s2 q came most) cycles j2.room
+    room_after : (cycles : ℕ) → HasRoomFor (net_of site s0 p was most) (cycles + 1) j0.room → HasRoomFor (net_of site s2 q came most) cycles j2.room
     room_after cycles enough loads carries =
         let more = grown L0 reached.carries in
         let next : k + 1 ≡ suc k = omega arith in
@@ -207,3 +214,6 @@ module _ (law : KeepsRoom) (site : SiteState) (row : Row) (k : ℕ) (s0 s1 : Lis
         let parcel_room = more.room in
         let rows = whole.rows in
         omega arith
+
+    pub left : CycleLeaves site row k (net_of site s0 p was most) s2 q q1 came cap1 most j0 j2
+    left = record { whole = whole_after; played = record { same = same_net; rows = plays; room = room_after } }

@@ -1,5 +1,5 @@
 -- A network before its first cycle.
-use Rattle.std.proofs.Common.{◌≡◌, ℕ, suc, ◌+◌, ◌-◌, ◌≤◌, List, [], ◌∷◌, length, map, replicate, Some, slice_get, slice_index_or, refl, sym, ◌∙◌, ap, ap₂, subst, arith, All, inl, inr}
+use Rattle.std.proofs.Common.{◌≡◌, ℕ, suc, ◌+◌, ◌-◌, ◌≤◌, List, [], ◌∷◌, length, map, replicate, Some, slice_get, slice_index_or, refl, sym, ◌∙◌, ap, ap₂, subst, arith, All, inl, inr, vec_capacity}
 use Rattle.std.specs.List.{flat_map, sum_by}
 use Rattle.std.proofs.lemmas.Bool.{cases_lt}
 use Rattle.std.proofs.lemmas.List.{get_or-replicate, get_or_past, length-append, length-map, length-replicate}
@@ -17,8 +17,11 @@ use Rattle.irt_base.specs.declared.numbers.PortNo.{PortNo}
 use Rattle.irt_base.specs.declared.plants.Plant.{Plant}
 use Rattle.irt_base.specs.declared.plants.Traffic.{Traffic}
 use Rattle.irt_net.proofs.Begun.{all_from}
+use Rattle.irt_net.specs.Parts.{AreJoined, AreOpened, AreParcelsOf, AreTablesOf}
 use Rattle.irt_net.specs.Places.{bundle_places, entry_places, plan_places}
 use Rattle.irt_net.specs.Whole.{IsGated, IsWhole, walks_of}
+use Rattle.irt_net.specs.declared.parts.Parts.{Parts}
+use Rattle.irt_net.specs.declared.parts.Tables.{Tables}
 use Rattle.irt_route.specs.Routes.{AreTrafficWalks, IsRoutesOf, RouteTables}
 use Rattle.irt_route.specs.Walks.{far_of}
 use Rattle.irt_switch.specs.State.{SwitchState, gate_of, new_switch}
@@ -38,7 +41,7 @@ use Rattle.plan_rules.specs.Plan.{IsPlan}
 
 -- ---- switches
 
-pub blocks_new : (bundles : List Bundle) → bundles_of (map new_switch bundles) ≡ bundles
+blocks_new : (bundles : List Bundle) → bundles_of (map new_switch bundles) ≡ bundles
 blocks_new [] = refl
 blocks_new (b ∷ more) = ap (λ xs. b ∷ xs) (blocks_new more)
 
@@ -49,7 +52,7 @@ nothing_there n index =
       | inr past ↦ get_or_past (replicate n nothing_waiting) index nothing_waiting (omega (arith, length-replicate n nothing_waiting))
     ]
 
-pub nothing_held : (plant : Plant) (bundles : List Bundle) (switches : List SwitchState) (flight : List Handed) → switches ≡ map new_switch bundles → flight ≡ [] →
+nothing_held : (plant : Plant) (bundles : List Bundle) (switches : List SwitchState) (flight : List Handed) → switches ≡ map new_switch bundles → flight ≡ [] →
     HoldLoads plant switches flight no_loads
 nothing_held plant bundles switches flight made none = record {
   gates = λ at s among is.
@@ -83,7 +86,7 @@ walks_back plant all (w ∷ ws) n (t ∷ ts) (x ∷ xs) count walk_count each =
     (ap (map (λ (step : Step). step.1)) (each 0 t w x refl refl refl) ∙ ports_back plant t.source w)
     (walks_back plant all ws (n + 1) ts xs (omega arith) (omega arith) (λ i u v ys. each (suc i) u v ys))
 
-pub same_walks : (plant : Plant) (routes : RouteTables) (steps : List (List Step)) → IsRoutesOf plant routes → AreStepsOf plant routes.walks steps →
+same_walks : (plant : Plant) (routes : RouteTables) (steps : List (List Step)) → IsRoutesOf plant routes → AreStepsOf plant routes.walks steps →
     walks_of steps ≡ routes.walks
 same_walks plant routes steps are steps_are =
     walks_back plant routes.walks routes.walks 0 plant.traffic steps steps_are.count are.walk_count
@@ -116,11 +119,11 @@ count_from device (b ∷ more) =
 abbrev pub site_of : Plant → List Bundle → SiteState
 site_of plant bundles = record { plant = plant; delays = forwardings plant bundles }
 
-pub whole_new : (plant : Plant) (bundles : List Bundle) (routes : RouteTables) (site : SiteState) (switches : List SwitchState) (p : ParcelsState) (queue : Waiting)
-    (cap places rows most : ℕ) → IsPlan plant bundles → IsAccepted plant bundles → IsRoutesOf plant routes → site ≡ site_of plant bundles →
+whole_new : (plant : Plant) (bundles : List Bundle) (routes : RouteTables) (site : SiteState) (switches : List SwitchState) (p : ParcelsState) (queue : Waiting)
+    (cap places most : ℕ) → IsPlan plant bundles → IsAccepted plant bundles → IsRoutesOf plant routes → site ≡ site_of plant bundles →
     switches ≡ map new_switch bundles → IsMadeFor plant p → AreStepsOf plant routes.walks p.steps → queue.events ≡ [] → queue.room ≡ places → places ≤ cap →
-    places ≡ plan_places bundles → rows ≡ most_rows plant routes.walks → most ≡ places + rows → IsWhole site switches p queue cap most
-whole_new plant bundles routes site switches p queue cap places rows most plan accepted are site_is made made_for steps empty room noted count parcels sum =
+    places ≡ plan_places bundles → most ≡ places + most_rows plant routes.walks → IsWhole site switches p queue cap most
+whole_new plant bundles routes site switches p queue cap places most plan accepted are site_is made made_for steps empty room noted count sum =
     subst (λ (x : SiteState). IsWhole x switches p queue cap most) (sym site_is)
     (subst (λ (xs : List SwitchState). IsWhole (site_of plant bundles) xs p queue cap most) (sym made) whole)
   where
@@ -146,4 +149,21 @@ whole_new plant bundles routes site switches p queue cap places rows most plan a
       noted = subst (λ b. most_frames plant b ≤ cap) (sym same) (omega (arith, most_is));
       rows = subst (λ b. most_frames plant b + most_rows plant (walks_of p.steps) ≤ most) (sym same)
           (let rest = ap (most_rows plant) walks in omega (arith, most_is));
+    }
+
+-- what was opened for a plan are the parts of its network before the first cycle
+pub opened : (plant : Plant) (bundles : List Bundle) (routes : RouteTables) (parts : Parts) (site : SiteState) (tables : Tables) (places : ℕ) →
+    IsPlan plant bundles → IsAccepted plant bundles → IsRoutesOf plant routes → places ≡ plan_places bundles → site ≡ site_of plant bundles →
+    AreTablesOf bundles places tables → AreJoined site tables routes places parts → AreOpened plant bundles routes parts
+opened plant bundles routes parts site tables places plan accepted are count site_is made joined =
+    let here : parts.site ≡ site_of plant bundles = joined.same_site ∙ site_is in
+    let frames = subst (AreTablesOf bundles places) (sym joined.same_tables) made in
+    let parcels = subst (λ (s : SiteState). AreParcelsOf s.plant routes places parts.parcels parts.most) site_is joined.parcels in
+    record {
+      whole = whole_new plant bundles routes parts.site parts.tables.switches.items parts.parcels parts.tables.queue (vec_capacity parts.tables.came) places
+          parts.most plan accepted are here frames.made parcels.made parcels.steps frames.empty frames.room frames.noted count parcels.rows;
+      same_plant = ap (λ (s : SiteState). s.plant) here;
+      same_bundles = ap bundles_of frames.made ∙ blocks_new bundles;
+      same_walks = same_walks plant routes parts.parcels.steps are parcels.steps;
+      empty = nothing_held parts.site.plant bundles parts.tables.switches.items parts.parcels.flight frames.made parcels.none;
     }

@@ -1,4 +1,5 @@
 pub mod Came
 pub mod Net
+pub mod Parts
 pub mod Places
 pub mod Whole

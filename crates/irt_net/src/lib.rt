@@ -5,5 +5,6 @@
 mod came;
 mod frames;
 pub mod net;
+mod parts;
 mod places;
 mod switches;

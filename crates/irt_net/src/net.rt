@@ -1,6 +1,6 @@
 //! The network.
 
-ghost use Rattle.std.specs.Prelude.{◌≡◌, ◌<◌, ◌≤◌, ℕ, ◌+◌, List, IfOk, OnOk, OnErr};
+ghost use Rattle.std.specs.Prelude.{◌≡◌, ◌<◌, ℕ, ◌+◌, List, IfOk, OnOk, OnErr};
 ghost use Rattle.cycle_events.specs.Run.{IsPlayIn};
 ghost use Rattle.cycle_frames.specs.Bytes.{AreFramesOf};
 ghost use Rattle.irt_base.specs.declared.limits.TheConstants.{MAX_CYCLES};
@@ -12,17 +12,11 @@ ghost use Rattle.parcel_rules.specs.Loads.{Loads, no_loads};
 ghost use Rattle.plan_rules.specs.Plan.{setup_of};
 ghost use Rattle.plan_rules.specs.World.{WorldRow};
 
-use crate::frames::frames_cycle;
-use crate::places::plan_places;
-use crate::switches::new_switches;
+use crate::parts::Parts;
 use cycle_frames::came::Came;
-use event_queue::queue::Queue;
 use irt_base::memory::NoMemory;
 use irt_route::tables::Routes;
-use irt_switch::Switch;
 use irt_world::rows::Row;
-use net_parcels::parcels::Parcels;
-use net_site::site::Site;
 use parcel_rules::law::parcels_keep_to_their_room;
 use plan_check::accepted::Accepted;
 use rtc3_frame::frames::Frames;
@@ -34,33 +28,18 @@ use std::marker::Model;
 /// and which frames came last.
 #[derive(Drop)]
 pub struct Net {
-    site: Site,
-    switches: Vec<Switch>,
-    parcels: Parcels,
-    queue: Queue,
-    came: Vec<Came>,
-    most: usize,
+    parts: Parts,
 }
 
 impl Model for Net {
-    ghost use Rattle.std.specs.Prelude.{vec_capacity};
     ghost use Rattle.irt_net.specs.Net.{NetState};
-    ghost use Rattle.irt_net.specs.Whole.{IsWhole, walks_of};
-    ghost use Rattle.net_site.specs.Site.{bundles_of};
+    ghost use Rattle.irt_net.specs.Parts.{AreWhole, state_of};
 
     ghost Value = { NetState };
 
-    ghost view = { λ s. record {
-      plant = s.site.plant;
-      bundles = bundles_of s.switches.items;
-      walks = walks_of s.parcels.steps;
-      switches = s.switches.items;
-      flight = s.parcels.flight;
-      came = s.came.items;
-      most = s.most;
-    } };
+    ghost view = { λ s. state_of s.parts };
 
-    ghost invariant = { λ s. IsWhole s.site s.switches.items s.parcels s.queue (vec_capacity s.came) s.most };
+    ghost invariant = { λ s. AreWhole s.parts };
 }
 
 impl Net {
@@ -76,24 +55,8 @@ impl Net {
         ensures empty { IfOk result (λ net. Carries net no_loads) }
     {
         accepted.facts();
-        let bundles = accepted.bundles();
-        let site = Site::new(alloc, accepted.plant(), bundles)?;
-        let parcels = Parcels::new(alloc, &site, routes)?;
-        let places = plan_places(bundles);
-        let Some(rows) = parcels.most_rows(site.plant()) else {
-            return Err(NoMemory);
-        };
-        let Some(most) = places.checked_add(rows) else {
-            return Err(NoMemory);
-        };
-        Ok(Net {
-            switches: new_switches(alloc, bundles)?,
-            queue: Queue::new(alloc, places)?,
-            came: Vec::with_capacity(alloc, places)?,
-            site,
-            parcels,
-            most,
-        })
+        let parts = Parts::new(alloc, accepted.plant(), accepted.bundles(), routes)?;
+        Ok(Net { parts })
     }
 
     /// Makes room in a journal for so many cycles from the first one on.
@@ -107,7 +70,7 @@ impl Net {
         ensures err { OnErr result (journal.new ≡ journal.old) }
     {
         parcels_keep_to_their_room();
-        let Some(rows) = (cycles as usize).checked_mul(self.most) else {
+        let Some(rows) = (cycles as usize).checked_mul(self.parts.most) else {
             return Err(NoMemory);
         };
         journal.reserve(rows)
@@ -128,17 +91,13 @@ impl Net {
         ensures room { (cycles : ℕ) → HasRoomFor self.old (cycles + 1) journal.old.room →
             HasRoomFor self.new cycles journal.new.room }
     {
-        parcels_keep_to_their_room();
-        let switches = self.switches.as_mut_slice();
-        let (queue, came) = (&mut self.queue, &mut self.came);
-        frames_cycle(&self.site, row, k, switches, frames, queue, came, journal);
-        self.parcels.cycle(&self.site, row, k, switches, journal);
+        self.parts.cycle(k, row, frames, journal);
     }
 
     /// Which frames came to which devices in the last cycle, each once, by device and FrameID.
     pub fn came(&self) -> &[Came]
         ensures { result.now ≡ self.now.came }
     {
-        self.came.as_slice()
+        self.parts.tables.came.as_slice()
     }
 }

@@ -1,6 +1,5 @@
 -- A cycle of the network and its stations.
-use Rattle.std.proofs.Common.{◌≡◌, ℕ, ◌+◌, ◌<◌, List, length, Some, slice_get, All, Contains, refl, sym, ◌∙◌, ap, subst}
-use Rattle.std.specs.Prelude.{◌==◌}
+use Rattle.std.proofs.Common.{◌≡◌, ℕ, ◌<◌, List, length, Some, slice_get, All, refl, sym, ◌∙◌, ap, subst}
 use Rattle.std.proofs.lemmas.Bool.{eq-eqb}
 use Rattle.std.proofs.lemmas.Option.{same_Some, slice_get_within}
 use Rattle.cycle_frames.specs.Bytes.{AreFramesOf}
@@ -10,18 +9,17 @@ use Rattle.cycle_rows.proofs.Lists.{all_of}
 use Rattle.irt_base.specs.declared.blocks.Bundle.{Bundle}
 use Rattle.irt_base.specs.declared.plants.Demand.{Demand}
 use Rattle.irt_base.specs.declared.plants.Plant.{Plant}
-use Rattle.irt_net.specs.Net.{Carries, NetState, PlaysCycle}
+use Rattle.irt_net.specs.Net.{NetState}
 use Rattle.irt_world.specs.declared.rows.Row.{Row}
 use Rattle.iso_station.specs.Consumer.{ConsumerState}
 use Rattle.plan_rules.specs.Once.{HasToReach, IsDueFrame}
 use Rattle.plan_rules.specs.Places.{IsAccepted}
 use Rattle.plan_rules.specs.Plan.{IsPlan, setup_of}
-use Rattle.plan_rules.specs.Way.{Setup}
 use Rattle.plan_rules.specs.World.{WorldRow}
 use Rattle.plant_rules.specs.Words.{same_frame}
 use Rattle.plant_stations.specs.Loaded.{AreLoaded, AreOutputs}
 use Rattle.plant_stations.specs.Stations.{AreTrueImages, HavePlayed, StationsState, setup_in}
-use Rattle.iso_plant.specs.Played.{AreStationsOf, CanPlay, IsCycleOf, net_setup}
+use Rattle.iso_plant.specs.Played.{CanPlay, net_setup}
 use Rattle.iso_plant.proofs.Lists.{key_found}
 
 -- what is loaded on accepted plans are frames of their demands

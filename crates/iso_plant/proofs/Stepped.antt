@@ -1,6 +1,6 @@
 -- The plant after a cycle.
-use Rattle.std.proofs.Common.{◌≡◌, ℕ, suc, ◌+◌, ◌-◌, ◌<◌, ◌≤◌, List, [], ◌∷◌, ◌++◌, length, map, slice_get, Option, Some, None, inl, inr, refl, sym, ◌∙◌, ap, subst, arith, add-one}
-use Rattle.std.specs.Prelude.{option_and_then, option_map, slice_index_or, unwrap_or}
+use Rattle.std.proofs.Common.{◌≡◌, ℕ, suc, ◌+◌, ◌-◌, ◌<◌, ◌≤◌, List, [], ◌∷◌, ◌++◌, length, slice_get, Option, Some, None, inl, inr, refl, sym, ◌∙◌, ap, subst, arith, add-one}
+use Rattle.std.specs.Prelude.{option_and_then, option_map, unwrap_or}
 use Rattle.std.proofs.lemmas.List.{length-map, length_push}
 use Rattle.std.proofs.lemmas.Option.{same_Some, slice_get-map, slice_get_within, slice_get_past}
 use Rattle.cycle_frames.specs.declared.came.Came.{Came}
@@ -20,16 +20,17 @@ use Rattle.parcel_rules.specs.declared.handed.Handed.{Handed}
 use Rattle.plan_rules.proofs.Held.{some_at}
 use Rattle.plan_rules.specs.Way.{Setup}
 use Rattle.plan_rules.specs.World.{WorldRow}
-use Rattle.plant_stations.specs.Stations.{HavePlayed, StationsState}
+use Rattle.plant_stations.specs.Stations.{StationsState}
 use Rattle.run_journal.specs.Written.{Written}
+use Rattle.iso_plant.specs.Cycle.{IsNext}
 use Rattle.iso_plant.specs.Exchanged.{PublishesAll, TakesAll}
 use Rattle.iso_plant.specs.History.{AppCycles, with_image, with_take}
 use Rattle.iso_plant.specs.Played.{GoesOn, HasPlayed, IsCycleOf, net_setup}
 use Rattle.iso_plant.specs.Replay.{HasAllCycles, IsReplay, images_of, takes_of}
-use Rattle.iso_plant.specs.State.{IsHistoryOf, IsState, Parts, images_in, loads_of, rows_of, takes_in, view_of}
+use Rattle.iso_plant.specs.State.{IsHistoryOf, IsState, Parts, loads_of, rows_of, takes_in, view_of}
 use Rattle.iso_plant.specs.Step.{EndsView, IsFresh, ServesPlant, Steps, StepsApp}
-use Rattle.iso_plant.proofs.Apps.{get_before, get_last, get_push, none_past}
-use Rattle.iso_plant.proofs.Stepping.{FittingAreInRange, OfApp, OfTake, RestsOnDone, can_publish, histories_count, images_count, is_cycle, of_app, of_take, planned_at, read_map, taken_before, takes_count, widths}
+use Rattle.iso_plant.proofs.Apps.{get_push, none_past}
+use Rattle.iso_plant.proofs.Stepping.{FittingAreInRange, RestsOnDone, can_publish, histories_count, is_cycle, read_map, taken_before, widths}
 
 -- an image rests on the cycles up to its own
 abbrev pub RestsOnPast : Type 0
@@ -283,10 +284,6 @@ parts_after p net stations journal sent images logs = record {
   outputs = sent;
   images = images;
 }
-
-pub record IsNext (p next : Parts) (before after : EndsView) : Type 0 where
-  pub holds : IsState next
-  pub steps : Steps (view_of p) (view_of next) before after
 
 pub is_next : (p : Parts) (state : IsState p) (before : EndsView) (below : p.done < length p.world.rows) (serves : ServesPlant (view_of p) before)
     (fresh : IsFresh before) (took : List AppCycles) (sent : List (List ℕ)) (during : EndsView)

@@ -1,11 +1,10 @@
 -- That a cycle can be played: takes, the network, publications.
-use Rattle.std.proofs.Common.{◌≡◌, ◌⊎◌, ℕ, suc, ◌+◌, ◌-◌, ◌*◌, ◌<◌, ◌≤◌, List, [], ◌∷◌, ◌++◌, length, map, replicate, slice_get, Option, Some, None, All, inl, inr, refl, sym, ◌∙◌, ap, subst, arith}
+use Rattle.std.proofs.Common.{◌≡◌, ℕ, ◌-◌, ◌*◌, ◌<◌, ◌≤◌, List, [], ◌∷◌, ◌++◌, length, map, replicate, slice_get, Option, Some, None, All, inl, inr, refl, sym, ◌∙◌, ap, subst, arith}
 use Rattle.std.specs.Prelude.{option_and_then, option_map, slice_index_or, unwrap_or}
 use Rattle.std.specs.Option.{option_map_or}
 use Rattle.std.proofs.Math.Nat.{mul-le-mul_right}
-use Rattle.std.proofs.lemmas.List.{length-map, length_push}
+use Rattle.std.proofs.lemmas.List.{length-map}
 use Rattle.std.proofs.lemmas.Option.{get_or_from_slice_get, same_Some, slice_get-map, slice_get_within, slice_get_past}
-use Rattle.cycle_events.specs.Run.{IsPlayIn}
 use Rattle.io_buffers.specs.Given.{Given}
 use Rattle.irt_base.specs.declared.blocks.Bundle.{Bundle}
 use Rattle.irt_base.specs.declared.plants.App.{App}
@@ -14,10 +13,8 @@ use Rattle.irt_net.specs.Net.{HasRoomFor, NetState}
 use Rattle.irt_world.specs.Rows.{Fits, IsRowOf, world_row, world_rows}
 use Rattle.irt_world.specs.declared.rows.Row.{Row}
 use Rattle.irt_world.specs.declared.rows.World.{World}
-use Rattle.iso_rules.specs.Image.{app_on, sent_words}
 use Rattle.iso_rules.specs.Lockstep.{words_taken}
 use Rattle.iso_rules.specs.Station.{input_count, output_count}
-use Rattle.net_site.specs.Site.{play_in}
 use Rattle.plan_rules.proofs.Held.{all_at, some_at}
 use Rattle.plan_rules.specs.Plan.{setup_of}
 use Rattle.plan_rules.specs.Way.{IsInRange}

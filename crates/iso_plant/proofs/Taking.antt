@@ -5,7 +5,7 @@ use Rattle.std.proofs.lemmas.List.{length-set}
 use Rattle.std.proofs.lemmas.Option.{get_or_from_slice_get, same_Some, slice_get-get_or, slice_get_within}
 use Rattle.irt_base.specs.declared.plants.App.{App}
 use Rattle.iso_station.proofs.Placing.{set_there, set_elsewhere}
-use Rattle.iso_plant.specs.Exchanged.{CanTake, HasNoApp, HasOutput, TakesAll}
+use Rattle.iso_plant.specs.Exchanged.{CanTake, HasOutput, TakesAll}
 use Rattle.iso_plant.specs.History.{AppCycles, AreSameEnds, TakesFrom, with_take}
 use Rattle.iso_plant.specs.Step.{EndsView}
 

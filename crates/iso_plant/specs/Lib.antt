@@ -6,3 +6,4 @@ pub mod Exchanged
 pub mod Played
 pub mod State
 pub mod Made
+pub mod Cycle

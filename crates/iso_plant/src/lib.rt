@@ -2,8 +2,10 @@
 //! history, whatever the applications do and whoever turns them.
 #![tactic(auto)]
 
+mod begin;
 mod cycle;
 mod exchange;
 pub mod history;
 mod made;
 pub mod plant;
+mod step;

@@ -10,10 +10,9 @@ ghost use Rattle.iso_plant.specs.Replay.{IsReplay, images_of, setup_in, takes_of
 ghost use Rattle.iso_plant.specs.Step.{IsFresh, ServesPlant, Steps, ends_of};
 ghost use Rattle.iso_rules.specs.Station.{input_count, output_count};
 
-use crate::cycle::play_cycle;
-use crate::exchange::{publish_all, take_all};
+use crate::begin::{Machines, Tables, new_machines, new_tables};
 use crate::history::AppHistory;
-use crate::made::{new_histories, zero_images, zero_outputs};
+use crate::step::play_step;
 use cycle_rows::rows::JournalRow;
 use io_buffers::ends::Ends;
 use irt_base::list::Items;
@@ -21,12 +20,9 @@ use irt_base::memory::NoMemory;
 use irt_base::plants::App;
 use irt_net::net::Net;
 use irt_route::tables::Routes;
-use irt_world::law::fitting_worlds_are_in_range;
 use irt_world::rows::World;
-use iso_rules::law::images_rest_on_recent_cycles;
 use plan_check::accepted::Accepted;
 use plant_stations::Stations;
-use plant_stations::law::{stations_fit_exchanges, stations_rest_on_done_cycles};
 use run_journal::journal::Journal;
 use std::alloc::Global;
 use std::marker::Model;
@@ -105,20 +101,18 @@ impl PlantState {
         ensures done { IfOk result (λ p. p.done ≡ 0) }
     {
         accepted.facts();
-        let net = Net::new(alloc, accepted, routes)?;
-        let stations = Stations::new(alloc, accepted.plant(), accepted.bundles())?;
-        let mut journal = Journal::new(alloc);
-        net.reserve(&mut journal, world.rows.len() as u32)?;
-        stations_fit_exchanges();
-        let apps = accepted.plant().apps.try_copy(alloc)?;
-        let histories = new_histories(
-            alloc,
-            accepted.plant(),
-            accepted.bundles(),
-            world.rows.len(),
-        )?;
-        let outputs = zero_outputs(alloc, accepted.bundles())?;
-        let images = zero_images(alloc, histories.as_slice())?;
+        let cycles = world.rows.len();
+        let Tables {
+            apps,
+            histories,
+            outputs,
+            images,
+        } = new_tables(alloc, accepted.plant(), accepted.bundles(), cycles)?;
+        let Machines {
+            net,
+            stations,
+            journal,
+        } = new_machines(alloc, accepted, routes, cycles as u32)?;
         Ok(PlantState {
             net,
             stations,
@@ -167,27 +161,20 @@ impl PlantState {
             (ends_of E.apps E.output_words E.input_words E.offers E.takes E.published ends.old)
             (ends_of E.apps E.output_words E.input_words E.offers E.takes E.published ends.new) }
     {
-        fitting_worlds_are_in_range();
-        images_rest_on_recent_cycles();
-        stations_rest_on_done_cycles();
-        let k = self.done;
-        take_all(
-            self.apps.as_slice(),
-            self.histories.as_mut_slice(),
-            self.outputs.as_mut_slice(),
-            ends,
-        );
-        play_cycle(
+        let done = self.done;
+        play_step(
             &mut self.net,
             &mut self.stations,
             &mut self.journal,
-            k,
-            &self.world.rows[k as usize],
-            self.outputs.as_slice(),
-            self.images.as_mut_slice(),
+            &self.world,
+            done,
+            &self.apps,
+            &mut self.histories,
+            &mut self.outputs,
+            &mut self.images,
+            ends,
         );
-        publish_all(self.histories.as_mut_slice(), self.images.as_slice(), ends);
-        self.done = k + 1;
+        self.done = done + 1;
     }
 
     /// What the run has left so far.

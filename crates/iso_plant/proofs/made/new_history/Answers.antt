@@ -1,4 +1,4 @@
-use Rattle.std.proofs.Common.{◌≡◌, ◌<◌, ◌≤◌, ℕ, List, [], length, get_or, refl, subst, arith, IfOk, Some, slice_get, Result}
+use Rattle.std.proofs.Common.{◌≡◌, ◌<◌, ℕ, List, [], length, get_or, refl, subst, arith, IfOk, Some, slice_get, Result}
 use Rattle.std.proofs.lemmas.Option.{slice_get_read}
 use Rattle.irt_base.specs.declared.blocks.Bundle.{Bundle}
 use Rattle.irt_base.specs.declared.memory.NoMemory.{NoMemory}

@@ -1,4 +1,3 @@
-use Rattle.std.proofs.Common.{◌≡◌, ◌<◌, length, sym, ◌∙◌}
 use Rattle.iso_plant.proofs.Widths.{input_is}
 use Rattle.iso_plant.proofs.plant.PlantState.input_words.Goals as goal
 

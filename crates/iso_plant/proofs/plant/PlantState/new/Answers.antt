@@ -1,35 +1,59 @@
-use Rattle.std.proofs.Common.{ap, map, subst, ◌∙◌}
-use Rattle.irt_base.specs.declared.plants.Plant.{Plant}
-use Rattle.irt_net.specs.Net.{HasRoomFor}
-use Rattle.iso_plant.proofs.Beginning.{accepted_as, begun_as, few_as, histories_as}
-use Rattle.iso_plant.specs.Made.{zero_image, zero_output}
+use Rattle.std.proofs.Common.{◌≡◌, ℕ, ◌≤◌, Fits, w32, refl, arith}
+use Rattle.std.proofs.lemmas.Result.{IfOk-from_err}
+use Rattle.irt_base.specs.declared.limits.TheConstants.{MAX_CYCLES}
+use Rattle.iso_plant.proofs.Beginning.{accepted_as, begun_as, plan_as}
 use Rattle.iso_plant.proofs.plant.PlantState.new.Goals as goal
 
-pub new-requires-2-clause-accepted : goal.new-requires-2-clause-accepted
-new-requires-2-clause-accepted c = accepted_as _ _ _ _ c.plant.ensures c.bundles.ensures c.facts.ensures.accepted
+in_word : (n cycles : ℕ) → n ≡ cycles → cycles ≤ MAX_CYCLES → Fits w32 n
+in_word n cycles is few = omega arith
 
-pub new_histories-requires-clause-few : goal.new_histories-requires-clause-few
-new_histories-requires-clause-few c =
-    few_as _ _ _ _ c.plant-3.ensures c.bundles-2.ensures c.facts.ensures.plan c.facts.ensures.accepted
-    c.stations_fit_exchanges.ensures.outputs c.stations_fit_exchanges.ensures.inputs
+pub overflow_cast-cycles : goal.overflow_cast-cycles
+overflow_cast-cycles c = in_word _ _ c.len-cycles.ensures c.requires.cycles
+
+pub new_machines-requires : goal.new_machines-requires
+new_machines-requires c = c.requires.routes
+
+pub new_tables-requires-clause-plan : goal.new_tables-requires-clause-plan
+new_tables-requires-clause-plan c = plan_as _ _ _ _ c.plant.ensures c.bundles.ensures c.facts.ensures.plan
+
+pub new_tables-requires-clause-accepted : goal.new_tables-requires-clause-accepted
+new_tables-requires-clause-accepted c = accepted_as _ _ _ _ c.plant.ensures c.bundles.ensures c.facts.ensures.accepted
 
 pub invariant_of-result : goal.invariant_of-result
 invariant_of-result c =
-    begun_as _ _ _ _ _ _ _ _ c.args.accepted.now.plant c.args.accepted.now.bundles c.in_ok-net.ensures.plant c.in_ok-net.ensures.bundles
-    (record {
-      plan = c.facts.ensures.plan;
-      accepted = c.facts.ensures.accepted;
-      fits = c.requires.world;
-      cycles = c.requires.cycles;
-      empty = c.in_ok-net.ensures.empty;
-      same = (c.in_ok-stations.ensures.plant.0 ∙ c.plant.ensures, c.in_ok-stations.ensures.plant.1 ∙ c.bundles.ensures);
-      begun = c.in_ok-stations.ensures.begun;
-      cycle = c.in_ok-stations.ensures.cycle;
-      rows = c.reserve.ensures.rows ∙ c.new-journal.ensures;
-      room = subst (λ n. HasRoomFor c.in_ok-net.net n c.reserve.new.journal.room) c.len.ensures c.in_ok-reserve.ensures.ok;
-      apps = c.in_ok-apps.ensures ∙ ap (λ (p : Plant). p.apps) c.plant-2.ensures;
-      histories =
-          histories_as _ _ _ _ _ _ _ c.plant-3.ensures c.bundles-2.ensures c.len-2.ensures c.in_ok-histories.ensures;
-      outputs = c.in_ok-outputs.ensures ∙ ap (map zero_output) c.bundles-3.ensures;
-      images = c.in_ok-images.ensures ∙ ap (map zero_image) c.as_slice.ensures.value;
-    })
+    begun_as c.in_ok-net.field-0.net c.in_ok-net.field-0.stations c.args.world c.in_ok-net.field-0.journal c.in_ok-apps.field-0.apps
+    c.in_ok-apps.field-0.histories.items c.in_ok-apps.field-0.outputs.items c.in_ok-apps.field-0.images.items
+    c.args.accepted.now.plant c.plant.result.now c.args.accepted.now.bundles c.bundles.result.now c.args.routes.now.walks c.len-cycles.result
+    c.in_ok-net.ensures c.in_ok-apps.ensures c.plant.ensures c.bundles.ensures c.facts.ensures.plan c.facts.ensures.accepted
+    c.requires.world c.requires.cycles c.len-cycles.ensures
+
+pub returns : goal.returns
+returns c = record {
+  plant = c.in_ok-net.ensures.plant;
+  bundles = c.in_ok-net.ensures.bundles;
+  walks = c.in_ok-net.ensures.walks;
+  world = refl;
+  done = refl;
+}
+
+pub returns-in_err-net : goal.returns-in_err-net
+returns-in_err-net c =
+    let error = c.from_residual-in_err-net.ensures.0 in
+    record {
+      plant = IfOk-from_err _ _ error;
+      bundles = IfOk-from_err _ _ error;
+      walks = IfOk-from_err _ _ error;
+      world = IfOk-from_err _ _ error;
+      done = IfOk-from_err _ _ error;
+    }
+
+pub returns-in_err-apps : goal.returns-in_err-apps
+returns-in_err-apps c =
+    let error = c.from_residual.ensures.0 in
+    record {
+      plant = IfOk-from_err _ _ error;
+      bundles = IfOk-from_err _ _ error;
+      walks = IfOk-from_err _ _ error;
+      world = IfOk-from_err _ _ error;
+      done = IfOk-from_err _ _ error;
+    }

@@ -1,4 +1,3 @@
-use Rattle.std.proofs.Common.{◌≡◌, ◌<◌, length, sym, ◌∙◌}
 use Rattle.iso_plant.proofs.Widths.{output_is}
 use Rattle.iso_plant.proofs.plant.PlantState.output_words.Goals as goal
 
