@@ -11,9 +11,11 @@ use Rattle.irt_world.specs.Rows.{Fits}
 use Rattle.irt_world.specs.declared.rows.World.{World}
 use Rattle.plan_rules.specs.Plan.{IsPlan}
 use Rattle.plan_rules.specs.Places.{IsAccepted}
-use Rattle.plan_run.specs.Run.{IsRecordBy, IsRunText, Pace, in_lockstep, freely}
+use Rattle.plan_run.specs.Run.{IsRecordBy, IsRunText, Pace, in_lockstep, freely, text_of}
 use Rattle.plan_run.specs.Safe.{IsSafeRun}
 use Rattle.plan_run.specs.World.{IsSeedWorld}
+use Rattle.plant_rules.specs.Meets.{MeetsRules}
+use Rattle.record_fits.specs.Fits.{FitsPlant}
 use Rattle.record_text.specs.declared.record.Record.{Record}
 use Rattle.irt_top.specs.Call.{Call, TellsCause, RunsSafely}
 use Rattle.irt_top.specs.Cause as causes
@@ -24,11 +26,12 @@ use Rattle.irt_top.specs.World.{WorldSource, by_seed, by_file, IsWorldOf}
 use Rattle.irt_top.proofs.CallLemmas.{not_faulty, plan_files}
 use Rattle.irt_top.proofs.GenAsked.{gen_asked_is}
 
--- the record of a run of accepted blocks is safe, and a seed's world has the cycles asked for
+-- the record of a run of accepted blocks is safe, a seed's world has the cycles asked for, and a text is of one record
 pub record SafeLaws : Type 0 where
   pub safe : (plant : Plant) (bundles : List Bundle) → IsPlan plant bundles → IsAccepted plant bundles → (pace : Pace) (walks : List (List PortNo)) (world : World) (r : Record) → Fits plant bundles world →
       1 ≤ length world.rows → IsRecordBy pace plant bundles walks world r → IsSafeRun pace plant bundles walks world r
   pub cycles : (plant : Plant) (bundles : List Bundle) (seed cycles : ℕ) (world : World) → IsSeedWorld plant bundles seed cycles world → length world.rows ≡ cycles
+  pub one : (plant : Plant) → MeetsRules plant → (r s : Record) → FitsPlant plant r → FitsPlant plant s → text_of plant r ≡ text_of plant s → r ≡ s
 
 -- a run has some cycles
 some_cycles : (o : Option Command) (asked : RunAsked) → HasRanges o → run_asked o ≡ Some asked → 1 ≤ asked.cycles
@@ -62,6 +65,7 @@ module _ (laws : SafeLaws) where
   safe_text files asked p bundles walks world text some of says =
       let walked = of.sized.walked in
       let checked = walked.checked in
+      let plan = plan_files files asked.plant p bundles checked.are in
       let fits = world_fits files asked.world p bundles asked.cycles world of.is_world in
       let count = fits.1 in
       record {
@@ -76,7 +80,9 @@ module _ (laws : SafeLaws) where
         is_world = of.is_world;
         is_record = says.is_record;
         says = says.says;
-        safe = laws.safe p bundles (plan_files files asked.plant p bundles checked.are) checked.accepted asked.pace walks world says.log fits.0 (omega (arith, some, count)) says.is_record;
+        fits = says.fits;
+        one = λ other also same. laws.one p plan.rules other says.log also says.fits (sym same ∙ says.says);
+        safe = laws.safe p bundles plan checked.accepted asked.pace walks world says.log fits.0 (omega (arith, some, count)) says.is_record;
       }
 
   cause_runs : (files : Option Files) (asked : Option Command) (e : Ending) (wanted : RunAsked) → HasRanges asked → IsCauseOf files asked e → e.status ≡ 0 → run_asked asked ≡ Some wanted →

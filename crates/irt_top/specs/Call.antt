@@ -100,8 +100,8 @@ abbrev pub IsSafeWhereAccepted : Call → ℕ → Type 0
 IsSafeWhereAccepted c status =
     status ≡ 0 → (name : List ℕ) → c.asked ≡ Some (check name) → IsSafePlan c.files name
 
--- What a run prints is the text of a record: of the plan that the files spell, over the world of the words, in lockstep
--- or with free threads as they say. The plan's rules hold, and the run is safe.
+-- What a run prints is the text of exactly one record: of the plan that the files spell, over the world of the words, in
+-- lockstep or with free threads as they say. The plan's rules hold, and the run is safe.
 abbrev pub RunsSafely : Call → ℕ → Type 0
 RunsSafely c status = status ≡ 0 → (asked : RunAsked) → run_asked c.asked ≡ Some asked →
     (text : List ℕ) × Appends c.taken c.taken_after text × IsSafeRunText c.files asked text

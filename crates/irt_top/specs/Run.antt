@@ -15,6 +15,7 @@ use Rattle.plan_rules.specs.declared.place.Reject.{Reject}
 use Rattle.plan_run.specs.Run.{IsRecordBy, IsRunText, Pace, in_lockstep, freely, text_of}
 use Rattle.plan_run.specs.Safe.{IsSafeRun}
 use Rattle.plan_run.specs.Size.{is_too_long}
+use Rattle.record_fits.specs.Fits.{FitsPlant}
 use Rattle.record_text.specs.declared.record.Record.{Record}
 use Rattle.irt_top.specs.Check.{ArePlanFiles, rejected}
 use Rattle.irt_top.specs.DeviceFiles.{bundles_steps}
@@ -119,7 +120,7 @@ pub record IsRun (files : Option Files) (asked : RunAsked) (plant : Plant) (bund
   pub sized : IsSizedPlan files asked plant bundles walks
   pub is_world : IsWorldOf files asked.world plant bundles asked.cycles world
 
--- What a run printed: the text of a record.
+-- What a run printed: the text of exactly one record.
 pub record IsSafeRunText (files : Option Files) (asked : RunAsked) (text : List ℕ) : Type 0 where
   pub plant : Plant
   pub bundles : List Bundle
@@ -138,6 +139,9 @@ pub record IsSafeRunText (files : Option Files) (asked : RunAsked) (text : List 
   -- legal one, where each application has a thread of its own.
   pub is_record : IsRecordBy asked.pace plant bundles walks world log
   pub says : text ≡ text_of plant log
+  -- It fits the plant, and no other record that does has this text.
+  pub fits : FitsPlant plant log
+  pub one : (other : Record) → FitsPlant plant other → text ≡ text_of plant other → other ≡ log
   -- Over this world no two frames or parcels occupy a link direction at once; each due frame reaches exactly its
   -- receivers with a live route, by its planned time; and each buffer taken is whole, one publication, never older than
   -- the last, of its planned cycle where taken inside its window.

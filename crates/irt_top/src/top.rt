@@ -28,7 +28,9 @@ use irt_words::asked::Asked;
 use irt_words::law::stated_words_are_read;
 use irt_words::reading::read_words;
 use plan_rules::law::accepted_plans_are_safe;
-use plan_run::law::{runs_of_accepted_plans_are_safe, worlds_and_walks_are_one};
+use plan_run::law::{
+    runs_of_accepted_plans_are_safe, texts_are_of_one_record, worlds_and_walks_are_one,
+};
 use plan_run::run::Lockstep;
 use std::alloc::Global;
 use std::thread::Threads;
@@ -55,7 +57,7 @@ pub fn irt_calm<R: Threads + Sync, S: Shelf, K: Sink>(
     ensures exact { HasEveryCause (calm_call S.files S.faults K.taken K.faults words.now shelf.old shelf.new sink.old sink.new) result.0 }
     // A plan that is accepted is safe over every world.
     ensures safe { IsSafeWhereAccepted (calm_call S.files S.faults K.taken K.faults words.now shelf.old shelf.new sink.old sink.new) result.0 }
-    // What `run` prints is the text of the record of an accepted plan's run, which is safe over its world.
+    // What `run` prints is the text of exactly one record: that of an accepted plan's run, which is safe over its world.
     ensures ran { RunsSafely (calm_call S.files S.faults K.taken K.faults words.now shelf.old shelf.new sink.old sink.new) result.0 }
     // Status 1 is of words that are no command, whatever the shelf is.
     ensures usage { TellsUsage (calm_call S.files S.faults K.taken K.faults words.now shelf.old shelf.new sink.old sink.new) result.0 }
@@ -83,6 +85,7 @@ pub fn irt_calm<R: Threads + Sync, S: Shelf, K: Sink>(
     one_world();
     one_first_wrong();
     runs_of_accepted_plans_are_safe();
+    texts_are_of_one_record();
     let ended = run_words(rt, alloc, words, shelf);
     finish(sink, ended)
 }

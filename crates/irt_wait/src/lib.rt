@@ -23,7 +23,9 @@ use irt_words::law::stated_words_are_read;
 use irt_words::reading::read_words;
 use plan_free::Free;
 use plan_rules::law::accepted_plans_are_safe;
-use plan_run::law::{runs_of_accepted_plans_are_safe, worlds_and_walks_are_one};
+use plan_run::law::{
+    runs_of_accepted_plans_are_safe, texts_are_of_one_record, worlds_and_walks_are_one,
+};
 use std::alloc::Global;
 use std::sync::Wait;
 use std::thread::Threads;
@@ -50,10 +52,11 @@ pub fn irt<R: Threads + Wait + Sync, S: Shelf, K: Sink>(
     ensures exact { HasEveryCause (call S.files S.faults K.taken K.faults words.now shelf.old shelf.new sink.old sink.new) result.0 }
     // A plan that is accepted is safe over every world.
     ensures safe { IsSafeWhereAccepted (call S.files S.faults K.taken K.faults words.now shelf.old shelf.new sink.old sink.new) result.0 }
-    // Status 0 of `run` and `free`: from blocks that the checker accepts, for every table of clock errors, bridge delays and
-    // cut links and every interleaving of the threads, no two frames occupy a link direction at once; each due frame
-    // reaches exactly its receivers with a live route, by its planned time; and each buffer taken is whole, one
-    // publication, never older than the last, of its planned cycle where taken inside its window.
+    // Status 0 of `run` and `free`: what was printed is the text of exactly one record, that of the run; and from blocks that
+    // the checker accepts, for every table of clock errors, bridge delays and cut links and every interleaving of the
+    // threads, no two frames occupy a link direction at once; each due frame reaches exactly its receivers with a live
+    // route, by its planned time; and each buffer taken is whole, one publication, never older than the last, of its
+    // planned cycle where taken inside its window.
     ensures ran { RunsSafely (call S.files S.faults K.taken K.faults words.now shelf.old shelf.new sink.old sink.new) result.0 }
     // Status 1 is of words that are no command, whatever the shelf is.
     ensures usage { TellsUsage (call S.files S.faults K.taken K.faults words.now shelf.old shelf.new sink.old sink.new) result.0 }
@@ -81,6 +84,7 @@ pub fn irt<R: Threads + Wait + Sync, S: Shelf, K: Sink>(
     one_world();
     one_first_wrong();
     runs_of_accepted_plans_are_safe();
+    texts_are_of_one_record();
     run_words(rt, alloc, words, shelf, sink)
 }
 

@@ -11,6 +11,7 @@ use Rattle.iso_rules.specs.Legal.{IsLegal}
 use Rattle.iso_run.specs.Run.{IsRunJournal}
 use Rattle.plan_rules.specs.Plan.{setup_of}
 use Rattle.plan_run.specs.Run.{freely, IsLegalRecord, IsRunText, kinds_of, next_kind, text_of}
+use Rattle.record_fits.specs.Fits.{FitsPlant}
 use Rattle.record_text.specs.Text.{run_of}
 use Rattle.record_text.specs.declared.record.Record.{Record}
 
@@ -25,6 +26,7 @@ legal_record plant bundles walks world firsts r are cycles legal = record {
 
 -- the text of that record is a free run's
 pub free_text : {V E : Type 0} (items : V → List ℕ) (plant : Plant) (bundles : List Bundle) (walks : List (List PortNo)) (world : World) (r : Record) (result : Result V E) →
-    IsLegalRecord plant bundles walks world r → IfOk result (λ v. items v ≡ text_of plant r) → IfOk result (λ v. IsRunText freely plant bundles walks world (items v))
-free_text items plant bundles walks world r (Err e) is says = tt
-free_text items plant bundles walks world r (Ok v) is says = record { log = r; is_record = is; says = says }
+    IsLegalRecord plant bundles walks world r → IfOk result (λ v. items v ≡ text_of plant r) → FitsPlant plant r →
+    IfOk result (λ v. IsRunText freely plant bundles walks world (items v))
+free_text items plant bundles walks world r (Err e) is says fits = tt
+free_text items plant bundles walks world r (Ok v) is says fits = record { log = r; is_record = is; fits = fits; says = says }

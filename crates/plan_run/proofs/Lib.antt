@@ -1,7 +1,7 @@
 mod Reached
 mod OneWorld
 mod OneText
-mod RunJournal
+mod LegalRuns
 mod SafeRuns
 mod Headers
 mod Words

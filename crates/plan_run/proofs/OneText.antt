@@ -1,4 +1,4 @@
--- A lockstep run has one record, and so one text.
+-- A lockstep run has one record, and so one text; and a text is of one record.
 use Rattle.std.proofs.Common.{◌≡◌, ℕ, List, length, sym, ◌∙◌, ap}
 use Rattle.cycle_rows.specs.Journal.{IsJournal}
 use Rattle.cycle_rows.specs.declared.rows.JournalRow.{JournalRow}
@@ -14,7 +14,10 @@ use Rattle.parcel_rules.specs.Rows.{parcel_rows}
 use Rattle.plan_rules.specs.Plan.{setup_of}
 use Rattle.plan_rules.specs.Way.{Setup}
 use Rattle.plan_rules.specs.World.{WorldRow}
-use Rattle.plan_run.specs.Run.{in_lockstep, IsRecordOf, IsRunText, kinds_of, next_kind}
+use Rattle.plan_run.specs.Run.{in_lockstep, IsRecordOf, IsRunText, kinds_of, next_kind, text_of}
+use Rattle.plant_rules.specs.Meets.{MeetsRules}
+use Rattle.record_fits.specs.Fits.{FitsPlant}
+use Rattle.record_laws.specs.Fitting
 use Rattle.record_text.specs.Text.{record_text, run_of}
 use Rattle.record_text.specs.declared.record.Record.{Record}
 
@@ -40,3 +43,13 @@ one_text law plant bundles walks world text other a b =
     ∙ ap (λ n. record_text plant n (run_of a.log)) cycles
     ∙ ap (record_text plant b.log.cycles) runs
     ∙ sym b.says
+
+-- records that fit a plant have their own texts
+abbrev pub OneText : Type 0
+OneText = (plant : Plant) (cycles others : ℕ) (r s : RunRecord JournalRow) → MeetsRules plant → Fitting.IsRecordOf plant cycles r → Fitting.IsRecordOf plant others s →
+    record_text plant cycles r ≡ record_text plant others s → (cycles ≡ others) × (r ≡ s)
+
+pub one_log : OneText → (plant : Plant) → MeetsRules plant → (r s : Record) → FitsPlant plant r → FitsPlant plant s → text_of plant r ≡ text_of plant s → r ≡ s
+one_log law plant rules r s a b same =
+    let (cycles, runs) = law plant r.cycles s.cycles (run_of r) (run_of s) rules a b same in
+    λ i. record { cycles = cycles i; apps = (runs i).apps; journal = (runs i).journal }

@@ -10,6 +10,7 @@ use Rattle.iso_app.specs.declared.kinds.AppKind.{AppKind}
 use Rattle.iso_rules.specs.Legal.{IsLegal}
 use Rattle.iso_run.specs.Run.{IsRunJournal, IsRunRecord}
 use Rattle.plan_rules.specs.Plan.{setup_of}
+use Rattle.record_fits.specs.Fits.{FitsPlant}
 use Rattle.record_text.specs.Text.{record_text, run_of}
 use Rattle.record_text.specs.declared.record.Record.{Record}
 
@@ -46,9 +47,10 @@ IsRecordBy freely plant bundles walks world r = IsLegalRecord plant bundles walk
 abbrev pub text_of : Plant → Record → List ℕ
 text_of plant r = record_text plant r.cycles (run_of r)
 
--- a text is that of a run's record
+-- a text is that of a run's record, which fits the plant
 pub record IsRunText (pace : Pace) (plant : Plant) (bundles : List Bundle) (walks : List (List PortNo))
     (world : World) (text : List ℕ) : Type 0 where
   pub log : Record
   pub is_record : IsRecordBy pace plant bundles walks world log
+  pub fits : FitsPlant plant log
   pub says : text ≡ text_of plant log

@@ -10,9 +10,11 @@ ghost use Rattle.irt_world.specs.Rows.{Fits};
 ghost use Rattle.irt_world.specs.declared.rows.World.{World};
 ghost use Rattle.plan_rules.specs.Places.{IsAccepted};
 ghost use Rattle.plan_rules.specs.Plan.{IsPlan};
-ghost use Rattle.plan_run.specs.Run.{IsRecordBy, IsRecordOf, IsRunText, Pace, in_lockstep};
+ghost use Rattle.plan_run.specs.Run.{IsRecordBy, IsRecordOf, IsRunText, Pace, in_lockstep, text_of};
 ghost use Rattle.plan_run.specs.Safe.{IsSafeRun};
 ghost use Rattle.plan_run.specs.World.{IsSeedWorld};
+ghost use Rattle.plant_rules.specs.Meets.{MeetsRules};
+ghost use Rattle.record_fits.specs.Fits.{FitsPlant};
 ghost use Rattle.record_text.specs.Text.{run_of};
 ghost use Rattle.record_text.specs.declared.record.Record.{Record};
 
@@ -21,6 +23,7 @@ use irt_world::law::fitting_worlds_are_in_range;
 use iso_app::kinds::AppKind;
 use iso_rules::law::{lockstep_records_are_legal, lockstep_runs_are_one};
 use parcel_rules::law::parcels_of_accepted_plans_are_apart;
+use record_laws::law::texts_determine_records;
 use sync_world::law::ptcp_worlds_are_one;
 
 /// The record of a run of accepted blocks over any world in range is safe, at either pace.
@@ -45,6 +48,14 @@ pub fn run_texts_are_one()
         IsRunText in_lockstep plant bundles walks world other → text ≡ other }
 {
     lockstep_runs_are_one::<AppKind>();
+}
+
+/// A text is that of one record alone: no other that fits the plant has it.
+pub fn texts_are_of_one_record()
+    ensures { (plant : Plant) → MeetsRules plant → (r s : Record) → FitsPlant plant r → FitsPlant plant s →
+        text_of plant r ≡ text_of plant s → r ≡ s }
+{
+    texts_determine_records();
 }
 
 /// A seed has one world, with as many cycles as were asked for, and a plant's traffic one list of walks.

@@ -7,6 +7,7 @@ ghost use Rattle.irt_base.specs.declared.numbers.PortNo.{PortNo};
 ghost use Rattle.irt_route.specs.Routes.{IsRoutesOf};
 ghost use Rattle.irt_world.specs.Rows.{Fits};
 ghost use Rattle.irt_world.specs.declared.rows.World.{World};
+ghost use Rattle.record_fits.specs.Fits.{FitsPlant};
 ghost use Rattle.plan_run.specs.Run.{IsRecordBy, IsRecordOf, IsRunText, Pace, in_lockstep, kinds_of, text_of};
 
 use irt_base::list::Items;
@@ -15,10 +16,11 @@ use irt_base::plants::Plant;
 use irt_route::tables::Routes;
 use irt_world::rows::World;
 use iso_app::AppKind;
+use iso_rules::law::lockstep_records_are_legal;
 use iso_run::lockstep::run_lockstep;
-use parcel_rules::law::parcels_of_accepted_plans_are_apart;
 use plan_check::accepted::Accepted;
-use record_text::law::journals_stand_by_cycle;
+use record_fits::law::legal_records_fit;
+use record_numbers::numbers::numbers_are_in_range;
 use record_text::print_record;
 use record_text::record::Record;
 use std::alloc::Global;
@@ -95,19 +97,30 @@ pub fn run_record<R: Threads + Sync>(
     run_lockstep(rt, alloc, accepted, routes, world, apps)
 }
 
-/// The text of the record of a run of an accepted plan.
+/// The text of the record of a run of an accepted plan over one cycle or more. The record fits the plant.
 ///
 /// # Errors
 /// `NoMemory` where memory runs out.
 pub fn print_run(alloc: Global, accepted: &Accepted, log: &Record) -> Result<Vec<u8>, NoMemory>
-    requires { (pace : Pace) × (walks : List (List PortNo)) × (world : World) ×
+    requires { (pace : Pace) × (walks : List (List PortNo)) × (world : World) × (1 ≤ length world.rows) ×
         IsRecordBy pace accepted.now.plant accepted.now.bundles walks world log.now }
-    ensures { IfOk result (λ v. v.items ≡ text_of accepted.now.plant log.now) }
+    ensures text { IfOk result (λ v. v.items ≡ text_of accepted.now.plant log.now) }
+    ensures fits { FitsPlant accepted.now.plant log.now }
+{
+    record_fits(accepted, log);
+    print_record(alloc, accepted.plant(), log)
+}
+
+/// The record of a run of an accepted plan over one cycle or more fits the plant.
+fn record_fits(accepted: &Accepted, log: &Record)
+    requires { (pace : Pace) × (walks : List (List PortNo)) × (world : World) × (1 ≤ length world.rows) ×
+        IsRecordBy pace accepted.now.plant accepted.now.bundles walks world log.now }
+    ensures { FitsPlant accepted.now.plant log.now }
 {
     accepted.facts();
-    parcels_of_accepted_plans_are_apart();
-    journals_stand_by_cycle();
-    print_record(alloc, accepted.plant(), log)
+    lockstep_records_are_legal::<AppKind>();
+    legal_records_fit::<AppKind>();
+    numbers_are_in_range(log);
 }
 
 /// The applications of a plant before their first turn.

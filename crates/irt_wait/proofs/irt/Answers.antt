@@ -40,7 +40,11 @@ returns-clause-safe g c = is_safe c.accepted_plans_are_safe.ensures _ _ (returns
 
 pub returns-clause-ran : goal.returns-clause-ran
 returns-clause-ran g c =
-    runs_safely (record { safe = c.runs_of_accepted_plans_are_safe.ensures; cycles = c.worlds_and_walks_are_one.ensures.cycles }) _ _
+    runs_safely (record {
+      safe = c.runs_of_accepted_plans_are_safe.ensures;
+      cycles = c.worlds_and_walks_are_one.ensures.cycles;
+      one = c.texts_are_of_one_record.ensures;
+    }) _ _
     (asked_ranged (texts_of c.args.words.now)) (returns-clause-cause g c)
 
 pub returns-clause-usage : goal.returns-clause-usage

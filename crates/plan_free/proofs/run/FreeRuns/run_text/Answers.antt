@@ -11,6 +11,7 @@ print_run-requires g c =
       freely,
       walks,
       c.args.world,
+      c.requires.some,
       legal_record a.plant a.bundles walks c.args.world _ log.log (c.in_ok-apps.ensures ∙ ap kinds_of c.plant.ensures) log.ensures.cycles log.ensures.legal,
     )
 
@@ -21,4 +22,4 @@ returns g c =
     let log = c.in_ok-log in
     free_text (λ v. v.items) a.plant a.bundles walks c.args.world log.log c.print_run.result
     (legal_record a.plant a.bundles walks c.args.world _ log.log (c.in_ok-apps.ensures ∙ ap kinds_of c.plant.ensures) log.ensures.cycles log.ensures.legal)
-    c.print_run.ensures
+    c.print_run.ensures.text c.print_run.ensures.fits

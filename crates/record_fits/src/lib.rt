@@ -1,0 +1,4 @@
+//! The records of runs fit their plants.
+#![tactic(auto)]
+
+pub mod law;

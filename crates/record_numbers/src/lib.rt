@@ -1,0 +1,4 @@
+//! What the types of a record say of its numbers.
+#![tactic(auto)]
+
+pub mod numbers;
