@@ -1,6 +1,6 @@
 //! The parts of each app: its exchanges, the passes of both sides, and what a cycle takes from it and publishes to it.
 
-ghost use Rattle.std.specs.Prelude.{◌≡◌, ◌<◌, ◌≤◌, IfOk, Some, length, map, slice_get};
+ghost use Rattle.std.specs.Prelude.{◌≡◌, ◌+◌, ◌<◌, ◌≤◌, IfOk, Some, length, map, slice_get};
 ghost use Rattle.io_buffers.specs.Passes.{table_of};
 ghost use Rattle.irt_base.specs.declared.limits.TheConstants.{MAX_CYCLES};
 ghost use Rattle.free_jobs.specs.Jobs.{new_job};
@@ -57,28 +57,47 @@ pub fn part_all<A: IsoApp, N: Naming + Firsts<A>>(
     ensures { IfOk result (λ p. AreBegun N.start (app_count N.start) p.wires.items p.ports.items p.buffers.items
         p.jobs.items) }
 {
-    let mut wires = Vec::with_capacity(alloc, openings.len())?;
-    let mut ports = Vec::with_capacity(alloc, openings.len())?;
-    let mut buffers = Vec::with_capacity(alloc, openings.len())?;
-    let mut jobs = Vec::with_capacity(alloc, openings.len())?;
+    let mut all = Parts::with_capacity(alloc, openings.len())?;
     for opened in openings {
-        let AppParts {
-            wire,
-            port,
-            buffer,
-            job,
-        } = parts_of(alloc, opened, wires.len());
-        wires.push(wire)?;
-        ports.push(port)?;
-        buffers.push(buffer)?;
-        jobs.push(job)?;
+        let number = all.wires.len();
+        all.add(parts_of(alloc, opened, number))?;
     }
-    Ok(Parts {
-        wires,
-        ports,
-        buffers,
-        jobs,
-    })
+    Ok(all)
+}
+
+impl<A: IsoApp, N: Naming + Firsts<A>> Parts<A, N> {
+    /// Room for the parts of so many apps.
+    fn with_capacity(alloc: Global, apps: usize) -> Result<Parts<A, N>, NoMemory>
+        ensures begun { IfOk result (λ p. AreBegun N.start (length p.wires.items) p.wires.items p.ports.items p.buffers.items
+            p.jobs.items) }
+        ensures none { IfOk result (λ p. length p.wires.items ≡ 0) }
+    {
+        Ok(Parts {
+            wires: Vec::with_capacity(alloc, apps)?,
+            ports: Vec::with_capacity(alloc, apps)?,
+            buffers: Vec::with_capacity(alloc, apps)?,
+            jobs: Vec::with_capacity(alloc, apps)?,
+        })
+    }
+
+    /// Adds the parts of the next app.
+    fn add(&mut self, parts: AppParts<A, N>) -> Result<(), NoMemory>
+        requires begun { AreBegun N.start (length self.old.wires.items) self.old.wires.items self.old.ports.items
+            self.old.buffers.items self.old.jobs.items }
+        requires wire { parts.wire ≡ length self.old.wires.items }
+        requires port { parts.port ≡ new_port (length self.old.wires.items) }
+        requires buffer { HasWidths N.start (length self.old.wires.items) parts.buffer }
+        requires job { parts.job.number ≡ length self.old.wires.items }
+        ensures begun { IfOk result (λ _. AreBegun N.start (length self.new.wires.items) self.new.wires.items
+            self.new.ports.items self.new.buffers.items self.new.jobs.items) }
+        ensures more { IfOk result (λ _. length self.new.wires.items ≡ length self.old.wires.items + 1) }
+    {
+        self.wires.push(parts.wire)?;
+        self.ports.push(parts.port)?;
+        self.buffers.push(parts.buffer)?;
+        self.jobs.push(parts.job)?;
+        Ok(())
+    }
 }
 
 /// The parts of the app of this number.

@@ -1,13 +1,14 @@
 //! What a run leaves behind.
 
 ghost use Rattle.std.specs.Prelude.{◌≡◌, IfOk, length};
-ghost use Rattle.iso_run.specs.Logs.{log_from, logs_from};
+ghost use Rattle.iso_run.specs.Logs.{IsLeft, log_from, logs_from};
 
 use crate::apps::LockstepApp;
 use irt_base::list::Items;
 use irt_base::memory::NoMemory;
 use iso_plant::history::AppHistory;
-use record_text::record::AppRecord;
+use iso_plant::plant::{History, PlantState};
+use record_text::record::{AppRecord, Record};
 use std::alloc::Global;
 use std::mem;
 
@@ -21,7 +22,7 @@ fn close_app<A: Drop>(alloc: Global, app: &mut LockstepApp<A>, history: AppHisto
 }
 
 /// What a run leaves of all applications, in the plant's order.
-pub fn close_all<A: Drop>(
+fn close_all<A: Drop>(
     alloc: Global,
     mut apps: Vec<LockstepApp<A>>,
     histories: Items<AppHistory>,
@@ -35,4 +36,26 @@ pub fn close_all<A: Drop>(
         records.push(close_app(alloc, app, history))?;
     }
     Ok(records)
+}
+
+/// What a run of so many cycles leaves behind.
+pub fn close<A: Drop>(
+    alloc: Global,
+    plant: PlantState,
+    apps: Vec<LockstepApp<A>>,
+    cycles: u32,
+) -> Result<Record, NoMemory>
+    requires { length apps.items ≡ length plant.plant.apps }
+    ensures { IfOk result (λ r. IsLeft plant apps.items cycles r) }
+{
+    let History {
+        apps: histories,
+        journal,
+    } = plant.into_history();
+    let apps = close_all(alloc, apps, histories)?;
+    Ok(Record {
+        cycles,
+        apps,
+        journal,
+    })
 }

@@ -1,12 +1,14 @@
 //! The lockstep run.
 
-ghost use Rattle.std.specs.Prelude.{◌≡◌, ◌≤◌, IfOk, length};
+ghost use Rattle.std.specs.Prelude.{◌≡◌, ◌≤◌, List, IfOk, length};
 ghost use Rattle.irt_base.specs.declared.limits.TheConstants.{MAX_CYCLES};
 ghost use Rattle.irt_route.specs.Routes.{IsRoutesOf};
 ghost use Rattle.irt_world.specs.Rows.{Fits};
+ghost use Rattle.iso_plant.specs.Replay.{setup_in};
+ghost use Rattle.iso_run.specs.Opened.{AreOpened};
 ghost use Rattle.iso_run.specs.Run.{IsRunRecord};
 
-use crate::closing::close_all;
+use crate::closing::close;
 use crate::cycle::run_all;
 use crate::opening::{Opened, open_all};
 use irt_base::list::Items;
@@ -14,7 +16,7 @@ use irt_base::memory::NoMemory;
 use irt_route::tables::Routes;
 use irt_world::rows::World;
 use iso_app::IsoApp;
-use iso_plant::plant::{History, PlantState};
+use iso_plant::plant::PlantState;
 use plan_check::accepted::Accepted;
 use record_text::record::Record;
 use std::alloc::Global;
@@ -41,8 +43,28 @@ pub fn run_lockstep<A: IsoApp + Send, R: Threads + Sync>(
         routes.now.walks world apps r) }
 {
     let cycles = world.rows.len() as u32;
-    let mut plant = PlantState::new(alloc, accepted, routes, world)?;
-    let Opened { mut apps, mut ends } = open_all(alloc, accepted, &plant, apps)?;
+    let plant = PlantState::new(alloc, accepted, routes, world)?;
+    let opened = open_all(alloc, accepted, &plant, apps)?;
+    run_opened(rt, alloc, plant, opened, cycles)
+}
+
+/// Runs all cycles of a plant that has played none, and gives what they leave behind.
+fn run_opened<A: IsoApp + Send, R: Threads + Sync>(
+    rt: &R,
+    alloc: Global,
+    plant: PlantState,
+    opened: Opened<A>,
+    cycles: u32,
+) -> Result<Record, NoMemory>
+    requires begun { plant.done ≡ 0 }
+    requires cycles { cycles ≡ length plant.world.rows }
+    requires few { cycles ≤ MAX_CYCLES }
+    requires opened { (states : List A) × AreOpened (setup_in plant) states opened.apps.items opened.ends.ends.items }
+    ensures { (states : List A) → AreOpened (setup_in plant) states opened.apps.items opened.ends.ends.items →
+        IfOk result (λ r. IsRunRecord A.reply A.next_state plant.plant plant.bundles plant.walks plant.world states r) }
+{
+    let mut plant = plant;
+    let Opened { mut apps, mut ends } = opened;
     run_all(
         rt,
         alloc,
@@ -51,13 +73,5 @@ pub fn run_lockstep<A: IsoApp + Send, R: Threads + Sync>(
         &mut ends,
         cycles,
     )?;
-    let History {
-        apps: histories,
-        journal,
-    } = plant.into_history();
-    Ok(Record {
-        cycles,
-        apps: close_all(alloc, apps, histories)?,
-        journal,
-    })
+    close(alloc, plant, apps, cycles)
 }

@@ -5,8 +5,8 @@ use Rattle.iso_free.proofs.parts.part_all.Given as goal
 
 abbrev pub invariant-loop-opened : goal.invariant-loop-opened
 invariant-loop-opened g l = record {
-  begun : AreBegun g.N.Naming.start (length l.wires.items) l.wires.items l.ports.items l.buffers.items l.jobs.items;
-  count : length l.wires.items ≤ length l.fn.openings.items;
+  begun : AreBegun g.N.Naming.start (length l.all.wires.items) l.all.wires.items l.all.ports.items l.all.buffers.items l.all.jobs.items;
+  count : length l.all.wires.items ≤ length l.fn.openings.items;
   left : into_iter_len l.opened-iterator ≡ length (into_iter_items l.opened-iterator);
-  rest : into_iter_items l.opened-iterator ≡ drop (length l.wires.items) l.fn.openings.items;
+  rest : into_iter_items l.opened-iterator ≡ drop (length l.all.wires.items) l.fn.openings.items;
 }
