@@ -1,8 +1,8 @@
 //! The command `irt`, as `clap` reads it.
 
 ghost use Rattle.std.specs.Prelude.{◌≡◌, IfOk, codes, map, false};
-ghost use Rattle.clap.specs.Words.{app_of, rule_of};
-ghost use Rattle.irt_words.specs.Grammar.{IsLeaf, bare_app, short_app, run_app, irt_app, required, required_all, run_rules, gen_rules, seeded_rules, subcommand};
+ghost use Rattle.clap.specs.Words.{app_of, rule_of, with_subcommand};
+ghost use Rattle.irt_words.specs.Grammar.{IsLeaf, bare_app, short_app, run_app, irt_app, required, required_all, run_rules, subcommand};
 
 use clap::{Arg, Command};
 use std::alloc::{AllocError, Global};
@@ -12,8 +12,13 @@ pub fn irt_command<'a>(alloc: Global) -> Result<Command<'a>, AllocError>
     ensures { IfOk result (λ r. app_of r ≡ irt_app) }
 {
     let command = run_commands(alloc)?;
-    let command = command.subcommand(gen_subcommand(alloc)?)?;
-    command.subcommand(seeded_subcommand(alloc, "free")?)
+    let command = add(
+        alloc,
+        command,
+        "gen",
+        &["seed", "devices", "frames", "name"],
+    )?;
+    add(alloc, command, "free", &["plant", "cycles", "seed"])
 }
 
 /// The command `irt` with the subcommands of one file, `sync` and `run`.
@@ -21,18 +26,39 @@ fn run_commands<'a>(alloc: Global) -> Result<Command<'a>, AllocError>
     ensures { IfOk result (λ r. app_of r ≡ run_app) }
 {
     let command = short_commands(alloc)?;
-    let command = command.subcommand(seeded_subcommand(alloc, "sync")?)?;
-    command.subcommand(run_subcommand(alloc)?)
+    let command = add(alloc, command, "sync", &["plant", "cycles", "seed"])?;
+    add_run(alloc, command)
 }
 
 /// The command `irt` with the subcommands of one file.
 fn short_commands<'a>(alloc: Global) -> Result<Command<'a>, AllocError>
     ensures { IfOk result (λ r. app_of r ≡ short_app) }
 {
-    let command = bare_command(alloc);
-    let command = command.subcommand(subcommand(alloc, "plan", &["plant"])?)?;
-    let command = command.subcommand(subcommand(alloc, "check", &["plant"])?)?;
-    command.subcommand(subcommand(alloc, "show", &["file"])?)
+    let command = add(alloc, bare_command(alloc), "plan", &["plant"])?;
+    let command = add(alloc, command, "check", &["plant"])?;
+    add(alloc, command, "show", &["file"])
+}
+
+/// A command with one more subcommand, whose arguments must be there.
+fn add<'a>(
+    alloc: Global,
+    command: Command<'a>,
+    name: &'a str,
+    arguments: &[&'a str],
+) -> Result<Command<'a>, AllocError>
+    ensures { IfOk result (λ r. app_of r ≡ with_subcommand (app_of command.entry)
+        (subcommand name.entry.now (required_all (map (λ a. a.now) arguments.now)))) }
+{
+    let sub = subcommand(alloc, name, arguments)?;
+    command.subcommand(sub)
+}
+
+/// A command with the subcommand `run`.
+fn add_run<'a>(alloc: Global, command: Command<'a>) -> Result<Command<'a>, AllocError>
+    ensures { IfOk result (λ r. app_of r ≡ with_subcommand (app_of command.entry) (subcommand (codes "run") run_rules)) }
+{
+    let run = run_subcommand(alloc)?;
+    command.subcommand(run)
 }
 
 /// The command `irt` without subcommands. The words begin with a subcommand's name, and there is no help.
@@ -47,29 +73,13 @@ fn bare_command<'a>(alloc: Global) -> Command<'a>
         .subcommand_required(true)
 }
 
-/// A subcommand with a plant, a number of cycles and a seed.
-fn seeded_subcommand<'a>(alloc: Global, name: &'a str) -> Result<Command<'a>, AllocError>
-    ensures { IfOk result (λ r. IsLeaf r (subcommand name.entry.now seeded_rules)) }
-{
-    subcommand(alloc, name, &["plant", "cycles", "seed"])
-}
-
-/// The subcommand `gen`.
-fn gen_subcommand<'a>(alloc: Global) -> Result<Command<'a>, AllocError>
-    ensures { IfOk result (λ r. IsLeaf r (subcommand (codes "gen") gen_rules)) }
-{
-    subcommand(alloc, "gen", &["seed", "devices", "frames", "name"])
-}
-
 /// The subcommand `run`: a seed, or a world's file.
 fn run_subcommand<'a>(alloc: Global) -> Result<Command<'a>, AllocError>
     ensures { IfOk result (λ r. IsLeaf r (subcommand (codes "run") run_rules)) }
 {
-    let seed = Arg::new(alloc, "seed");
-    let world = Arg::new(alloc, "world").long("world");
-    subcommand(alloc, "run", &["plant", "cycles"])?
-        .arg(seed)?
-        .arg(world)
+    let command = subcommand(alloc, "run", &["plant", "cycles"])?;
+    let command = command.arg(Arg::new(alloc, "seed"))?;
+    command.arg(Arg::new(alloc, "world").long("world"))
 }
 
 /// A subcommand with arguments that must be there.

@@ -96,19 +96,29 @@ app_data devices a =
     table (with_member (codes "param") (number_data a.param) (with_member (codes "kind") (string (app_text a.kind))
     (with_member (codes "device") (name_data devices a.device) no_members)))
 
-abbrev pub plant_members : Plant → Members
-plant_members p =
-    with_member (codes "app") (list_data (app_data p.devices) p.apps)
-    (with_member (codes "traffic") (list_data (traffic_data p.devices) p.traffic)
-    (with_member (codes "demand") (list_data (demand_data p.devices) p.demands)
-    (with_member (codes "link") (list_data (link_data p.devices) p.links)
-    (with_member (codes "device") (list_data device_data p.devices)
-    (with_member (codes "sync") (sync_data p.sync)
-    (with_member (codes "clocks") (string (clocks_text p.clocks))
+-- the keys of the whole plant
+abbrev pub with_settings : Plant → Members → Members
+with_settings p members =
+    with_member (codes "clocks") (string (clocks_text p.clocks))
     (with_member (codes "orange") (number_data p.orange)
     (with_member (codes "red_max") (number_data p.red_max)
     (with_member (codes "window") (number_data p.window)
-    (with_member (codes "factor") (number_data p.factor) no_members))))))))))
+    (with_member (codes "factor") (number_data p.factor) members))))
+
+abbrev pub with_network : Plant → Members → Members
+with_network p members =
+    with_member (codes "link") (list_data (link_data p.devices) p.links)
+    (with_member (codes "device") (list_data device_data p.devices)
+    (with_member (codes "sync") (sync_data p.sync) members))
+
+abbrev pub with_loads : Plant → Members → Members
+with_loads p members =
+    with_member (codes "app") (list_data (app_data p.devices) p.apps)
+    (with_member (codes "traffic") (list_data (traffic_data p.devices) p.traffic)
+    (with_member (codes "demand") (list_data (demand_data p.devices) p.demands) members))
+
+abbrev pub plant_members : Plant → Members
+plant_members p = with_loads p (with_network p (with_settings p no_members))
 
 -- the numbers that no rule bounds fit 32 bits
 pub record HasWordFields (p : Plant) : Type 0 where

@@ -53,12 +53,12 @@ fn device_value(alloc: Global, device: &Device) -> Result<Value, NoMemory>
     requires { IsName device.now.name }
     ensures { IfOk result (λ v. view v ≡ device_data device.now) }
 {
-    let ports = ports_value(alloc, device.ports.as_slice())?;
     let mut table = Table::new(alloc);
     put_name(alloc, &mut table, "name", device.name.as_slice())?;
     put_text(alloc, &mut table, "mode", mode_text(device.mode))?;
     put_number(alloc, &mut table, "bmin", device.bmin)?;
     put_number(alloc, &mut table, "bmax", device.bmax)?;
+    let ports = ports_value(alloc, device.ports.as_slice())?;
     put(alloc, &mut table, "ports", ports)?;
     Ok(Value::Table(table))
 }
@@ -91,11 +91,11 @@ fn link_value(alloc: Global, plant: &Plant, link: Link) -> Result<Value, NoMemor
     requires { MeetsRules plant.now }
     ensures { IfOk result (λ v. view v ≡ link_data plant.now.devices link) }
 {
-    let from = name_of(alloc, plant, link.a)?;
-    let to = name_of(alloc, plant, link.b)?;
     let mut table = Table::new(alloc);
+    let from = name_of(alloc, plant, link.a)?;
     put(alloc, &mut table, "from", from)?;
     put_number(alloc, &mut table, "from_port", u32::from(link.a_port.0))?;
+    let to = name_of(alloc, plant, link.b)?;
     put(alloc, &mut table, "to", to)?;
     put_number(alloc, &mut table, "to_port", u32::from(link.b_port.0))?;
     put_number(alloc, &mut table, "delay", link.delay)?;
@@ -131,12 +131,12 @@ fn demand_value(alloc: Global, plant: &Plant, demand: &Demand) -> Result<Value, 
     ensures value { IfOk result (λ v. view v ≡ demand_data plant.now.devices demand.now) }
     ensures small { OnOk result (demand.now.update < 2 ^ 32) }
 {
-    let from = name_of(alloc, plant, demand.provider)?;
-    let to = names_value(alloc, plant, demand.consumers.as_slice())?;
     let update: u32 = demand.update;
     let mut table = Table::new(alloc);
     put_number(alloc, &mut table, "frame", u32::from(demand.frame.0))?;
+    let from = name_of(alloc, plant, demand.provider)?;
     put(alloc, &mut table, "from", from)?;
+    let to = names_value(alloc, plant, demand.consumers.as_slice())?;
     put(alloc, &mut table, "to", to)?;
     put_number(alloc, &mut table, "length", u32::from(demand.length))?;
     put_number(alloc, &mut table, "update", update)?;
@@ -161,10 +161,10 @@ fn traffic_value(alloc: Global, plant: &Plant, entry: Traffic) -> Result<Value, 
     requires { MeetsRules plant.now }
     ensures { IfOk result (λ v. view v ≡ traffic_data plant.now.devices entry) }
 {
-    let from = name_of(alloc, plant, entry.source)?;
-    let to = name_of(alloc, plant, entry.target)?;
     let mut table = Table::new(alloc);
+    let from = name_of(alloc, plant, entry.source)?;
     put(alloc, &mut table, "from", from)?;
+    let to = name_of(alloc, plant, entry.target)?;
     put(alloc, &mut table, "to", to)?;
     put_text(alloc, &mut table, "class", class_text(entry.class))?;
     put_number(alloc, &mut table, "length", u32::from(entry.length))?;
@@ -191,8 +191,8 @@ fn app_value(alloc: Global, plant: &Plant, app: App) -> Result<Value, NoMemory>
     ensures value { IfOk result (λ v. view v ≡ app_data plant.now.devices app) }
     ensures small { OnOk result (app.param < 2 ^ 32) }
 {
-    let device = name_of(alloc, plant, app.device)?;
     let mut table = Table::new(alloc);
+    let device = name_of(alloc, plant, app.device)?;
     put(alloc, &mut table, "device", device)?;
     put_text(alloc, &mut table, "kind", app_text(app.kind))?;
     put_number(alloc, &mut table, "param", app.param)?;
