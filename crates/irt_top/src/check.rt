@@ -56,7 +56,8 @@ pub fn load_bundles<S: Shelf>(
     requires devices { AllByRecursion IsDevice devices.now }
     requires valid { All IsBundle front }
     requires within { length front ≤ length devices.now }
-    ensures step { Follows (λ bs. bs) (bundles_steps (drop (length front) devices.now) front) (S.files shelf.old) (S.files shelf.new) result }
+    ensures step { Follows (λ bs. bs) (bundles_steps (drop (length front) devices.now) front)
+        (S.files shelf.old) (S.files shelf.new) result }
     ensures valid { IfOk result (All IsBundle) }
     ensures count { IfOk result (λ bs. length bs ≡ length devices.now) }
     ensures kept { S.files shelf.new ≡ S.files shelf.old }

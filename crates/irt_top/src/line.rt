@@ -111,7 +111,8 @@ pub fn accept_line(alloc: Global) -> Result<Vec<u8>, NoMemory>
 
 /// The check rule that fails, and its place; `device` is the name of the place's device.
 pub fn reject_line(alloc: Global, device: &[u8], reject: Reject) -> Result<Vec<u8>, NoMemory>
-    ensures { IfOk result (λ v. v.items ≡ reject_line reject.rule device.now reject.place.port reject.place.frame reject.place.other) }
+    ensures { IfOk result (λ v. v.items ≡
+        reject_line reject.rule device.now reject.place.port reject.place.frame reject.place.other) }
 {
     let rule = reject.rule;
     let port = reject.place.port;

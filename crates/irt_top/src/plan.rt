@@ -114,7 +114,8 @@ fn store_plan<S: Shelf>(
 ) -> Result<Vec<u8>, Stop>
     requires plan { IsPlan plant.now bundles.now }
     requires accepted { IsAccepted plant.now bundles.now }
-    ensures step { Follows (λ v. v.items) (stored_steps plant.now bundles.now) (S.files shelf.old) (S.files shelf.new) result }
+    ensures step { Follows (λ v. v.items) (stored_steps plant.now bundles.now)
+        (S.files shelf.old) (S.files shelf.new) result }
     ensures cause { HasCause (S.faults shelf.old) (S.faults shelf.new) result }
     ensures later { IsLater (S.faults shelf.old) (S.faults shelf.new) }
 {
@@ -142,7 +143,8 @@ fn store_bundles<S: Shelf>(
 ) -> Result<(), Stop>
     requires devices { AllByRecursion IsDevice devices.now }
     requires bundles { All IsBundle bundles.now }
-    ensures step { Follows (λ u. u) (store_steps (drop at devices.now) (drop at bundles.now)) (S.files shelf.old) (S.files shelf.new) result }
+    ensures step { Follows (λ u. u) (store_steps (drop at devices.now) (drop at bundles.now))
+        (S.files shelf.old) (S.files shelf.new) result }
     ensures cause { HasCause (S.faults shelf.old) (S.faults shelf.new) result }
     ensures later { IsLater (S.faults shelf.old) (S.faults shelf.new) }
 {
@@ -165,7 +167,8 @@ fn store_bundle<S: Shelf>(
 ) -> Result<(), Stop>
     requires device { IsDevice device.now }
     requires bundle { IsBundle bundle.now }
-    ensures step { Follows (λ u. u) (stores (device_file_of device.now.name) (bundle_bytes bundle.now) (gives tt)) (S.files shelf.old) (S.files shelf.new) result }
+    ensures step { Follows (λ u. u) (stores (device_file_of device.now.name) (bundle_bytes bundle.now) (gives tt))
+        (S.files shelf.old) (S.files shelf.new) result }
     ensures cause { HasCause (S.faults shelf.old) (S.faults shelf.new) result }
     ensures later { IsLater (S.faults shelf.old) (S.faults shelf.new) }
 {

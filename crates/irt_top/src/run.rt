@@ -43,7 +43,8 @@ pub fn run<T: Runs, S: Shelf>(
 ) -> Result<Vec<u8>, Stop>
     requires ready { T.can_run }
     requires cycles { IsWithin 1 MAX_CYCLES cycles }
-    ensures step { Follows (λ v. v.items) (run_steps T.pace name.now cycles (source_of world.entry)) (S.files shelf.old) (S.files shelf.new) result }
+    ensures step { Follows (λ v. v.items) (run_steps T.pace name.now cycles (source_of world.entry))
+        (S.files shelf.old) (S.files shelf.new) result }
     ensures kept { S.files shelf.new ≡ S.files shelf.old }
     ensures cause { HasCause (S.faults shelf.old) (S.faults shelf.new) result }
     ensures later { IsLater (S.faults shelf.old) (S.faults shelf.new) }
@@ -64,7 +65,8 @@ fn run_plant<T: Runs, S: Shelf>(
     requires ready { T.can_run }
     requires rules { MeetsRules plant.now }
     requires cycles { IsWithin 1 MAX_CYCLES cycles }
-    ensures step { Follows (λ v. v.items) (run_plant_steps T.pace cycles (source_of world.entry) plant.now) (S.files shelf.old) (S.files shelf.new) result }
+    ensures step { Follows (λ v. v.items) (run_plant_steps T.pace cycles (source_of world.entry) plant.now)
+        (S.files shelf.old) (S.files shelf.new) result }
     ensures kept { S.files shelf.new ≡ S.files shelf.old }
     ensures cause { HasCause (S.faults shelf.old) (S.faults shelf.new) result }
     ensures later { IsLater (S.faults shelf.old) (S.faults shelf.new) }
@@ -86,7 +88,8 @@ fn run_plan<T: Runs, S: Shelf>(
     requires ready { T.can_run }
     requires plan { IsPlan plant.now bundles.now }
     requires cycles { IsWithin 1 MAX_CYCLES cycles }
-    ensures step { Follows (λ v. v.items) (run_plan_steps T.pace cycles (source_of world.entry) plant.now bundles.now) (S.files shelf.old) (S.files shelf.new) result }
+    ensures step { Follows (λ v. v.items) (run_plan_steps T.pace cycles (source_of world.entry) plant.now bundles.now)
+        (S.files shelf.old) (S.files shelf.new) result }
     ensures kept { S.files shelf.new ≡ S.files shelf.old }
     ensures cause { HasCause (S.faults shelf.old) (S.faults shelf.new) result }
     ensures later { IsLater (S.faults shelf.old) (S.faults shelf.new) }
@@ -119,7 +122,9 @@ fn run_accepted<T: Runs, S: Shelf>(
 ) -> Result<Vec<u8>, Stop>
     requires ready { T.can_run }
     requires cycles { IsWithin 1 MAX_CYCLES cycles }
-    ensures step { Follows (λ v. v.items) (ran_steps T.pace cycles (source_of world.entry) accepted.now.plant accepted.now.bundles) (S.files shelf.old) (S.files shelf.new) result }
+    ensures step { Follows (λ v. v.items) (ran_steps T.pace cycles
+        (source_of world.entry) accepted.now.plant accepted.now.bundles)
+        (S.files shelf.old) (S.files shelf.new) result }
     ensures kept { S.files shelf.new ≡ S.files shelf.old }
     ensures cause { HasCause (S.faults shelf.old) (S.faults shelf.new) result }
     ensures later { IsLater (S.faults shelf.old) (S.faults shelf.new) }
@@ -159,7 +164,9 @@ fn run_walked<T: Runs, S: Shelf>(
     requires ready { T.can_run }
     requires routes { IsRoutesOf accepted.now.plant routes.now }
     requires cycles { IsWithin 1 MAX_CYCLES cycles }
-    ensures step { Follows (λ v. v.items) (walked_steps T.pace cycles (source_of world.entry) accepted.now.plant accepted.now.bundles routes.now.walks) (S.files shelf.old) (S.files shelf.new) result }
+    ensures step { Follows (λ v. v.items) (walked_steps T.pace cycles
+        (source_of world.entry) accepted.now.plant accepted.now.bundles routes.now.walks)
+        (S.files shelf.old) (S.files shelf.new) result }
     ensures kept { S.files shelf.new ≡ S.files shelf.old }
     ensures cause { HasCause (S.faults shelf.old) (S.faults shelf.new) result }
     ensures later { IsLater (S.faults shelf.old) (S.faults shelf.new) }
@@ -172,7 +179,8 @@ fn run_walked<T: Runs, S: Shelf>(
 fn fit_size(alloc: Global, accepted: &Accepted, routes: &Routes, cycles: u32) -> Result<(), Stop>
     requires routes { IsRoutesOf accepted.now.plant routes.now }
     requires cycles { IsWithin 1 MAX_CYCLES cycles }
-    ensures step { Decides (λ u. u) (size_steps accepted.now.plant accepted.now.bundles routes.now.walks cycles) result }
+    ensures step { Decides (λ u. u)
+        (size_steps accepted.now.plant accepted.now.bundles routes.now.walks cycles) result }
     ensures calm { IfErr result IsNoFault }
 {
     if is_too_long(alloc, accepted, routes, cycles)? {
@@ -194,7 +202,9 @@ fn run_sized<T: Runs, S: Shelf>(
     requires ready { T.can_run }
     requires routes { IsRoutesOf accepted.now.plant routes.now }
     requires cycles { IsWithin 1 MAX_CYCLES cycles }
-    ensures step { Follows (λ v. v.items) (sized_steps T.pace cycles (source_of world.entry) accepted.now.plant accepted.now.bundles routes.now.walks) (S.files shelf.old) (S.files shelf.new) result }
+    ensures step { Follows (λ v. v.items) (sized_steps T.pace cycles
+        (source_of world.entry) accepted.now.plant accepted.now.bundles routes.now.walks)
+        (S.files shelf.old) (S.files shelf.new) result }
     ensures kept { S.files shelf.new ≡ S.files shelf.old }
     ensures cause { HasCause (S.faults shelf.old) (S.faults shelf.new) result }
     ensures later { IsLater (S.faults shelf.old) (S.faults shelf.new) }

@@ -31,7 +31,8 @@ pub fn sync<S: Shelf>(
     seed: u64,
 ) -> Result<Vec<u8>, Stop>
     requires { cycles ≤ MAX_CYCLES }
-    ensures step { Follows (λ v. v.items) (sync_steps name.now cycles seed) (S.files shelf.old) (S.files shelf.new) result }
+    ensures step { Follows (λ v. v.items) (sync_steps name.now cycles seed)
+        (S.files shelf.old) (S.files shelf.new) result }
     ensures kept { S.files shelf.new ≡ S.files shelf.old }
     ensures cause { HasCause (S.faults shelf.old) (S.faults shelf.new) result }
     ensures later { IsLater (S.faults shelf.old) (S.faults shelf.new) }

@@ -50,30 +50,42 @@ pub fn irt_calm<R: Threads + Sync, S: Shelf, K: Sink>(
     sink: &mut K,
 ) -> Status
     // The status, what was printed and the files after the call are those of the words' steps.
-    ensures ends { FollowsSteps (calm_call S.files S.faults K.taken K.faults words.now shelf.old shelf.new sink.old sink.new) result.0 }
+    ensures ends { FollowsSteps
+        (calm_call S.files S.faults K.taken K.faults words.now shelf.old shelf.new sink.old sink.new) result.0 }
     // A text with this status was printed, and its cause holds; or there was a fault, or want of memory.
-    ensures cause { TellsCause (calm_call S.files S.faults K.taken K.faults words.now shelf.old shelf.new sink.old sink.new) result.0 }
+    ensures cause { TellsCause
+        (calm_call S.files S.faults K.taken K.faults words.now shelf.old shelf.new sink.old sink.new) result.0 }
     // Over files that are told, each cause has its status, but for faults and want of memory.
-    ensures exact { HasEveryCause (calm_call S.files S.faults K.taken K.faults words.now shelf.old shelf.new sink.old sink.new) result.0 }
+    ensures exact { HasEveryCause
+        (calm_call S.files S.faults K.taken K.faults words.now shelf.old shelf.new sink.old sink.new) result.0 }
     // A plan that is accepted is safe over every world.
-    ensures safe { IsSafeWhereAccepted (calm_call S.files S.faults K.taken K.faults words.now shelf.old shelf.new sink.old sink.new) result.0 }
+    ensures safe { IsSafeWhereAccepted
+        (calm_call S.files S.faults K.taken K.faults words.now shelf.old shelf.new sink.old sink.new) result.0 }
     // What `run` prints is the text of exactly one record: that of an accepted plan's run, which is safe over its world.
-    ensures ran { RunsSafely (calm_call S.files S.faults K.taken K.faults words.now shelf.old shelf.new sink.old sink.new) result.0 }
+    ensures ran { RunsSafely
+        (calm_call S.files S.faults K.taken K.faults words.now shelf.old shelf.new sink.old sink.new) result.0 }
     // Status 1 is of words that are no command, whatever the shelf is.
-    ensures usage { TellsUsage (calm_call S.files S.faults K.taken K.faults words.now shelf.old shelf.new sink.old sink.new) result.0 }
+    ensures usage { TellsUsage
+        (calm_call S.files S.faults K.taken K.faults words.now shelf.old shelf.new sink.old sink.new) result.0 }
     // Words that state a command other than `free` are never usage.
-    ensures stated { TakesCalm (calm_call S.files S.faults K.taken K.faults words.now shelf.old shelf.new sink.old sink.new) result.0 }
+    ensures stated { TakesCalm
+        (calm_call S.files S.faults K.taken K.faults words.now shelf.old shelf.new sink.old sink.new) result.0 }
     // A fault of the shelf is one that it counted, and so is one of the sink.
-    ensures faults { TellsFaults (calm_call S.files S.faults K.taken K.faults words.now shelf.old shelf.new sink.old sink.new) result.0 }
+    ensures faults { TellsFaults
+        (calm_call S.files S.faults K.taken K.faults words.now shelf.old shelf.new sink.old sink.new) result.0 }
     ensures status { IsStatus result.0 }
     // What `plan` stores is first fit's plan, and safe over every world.
-    ensures stored { StoresSafePlan (calm_call S.files S.faults K.taken K.faults words.now shelf.old shelf.new sink.old sink.new) result.0 }
+    ensures stored { StoresSafePlan
+        (calm_call S.files S.faults K.taken K.faults words.now shelf.old shelf.new sink.old sink.new) result.0 }
     // Whatever becomes of it, `plan` changes no file but those of the devices, one after the other.
-    ensures order { StoresInOrder (calm_call S.files S.faults K.taken K.faults words.now shelf.old shelf.new sink.old sink.new) }
+    ensures order { StoresInOrder
+        (calm_call S.files S.faults K.taken K.faults words.now shelf.old shelf.new sink.old sink.new) }
     // What `gen` stores is the plant that it makes, under its name and nowhere else.
-    ensures generated { StoresPlant (calm_call S.files S.faults K.taken K.faults words.now shelf.old shelf.new sink.old sink.new) result.0 }
+    ensures generated { StoresPlant
+        (calm_call S.files S.faults K.taken K.faults words.now shelf.old shelf.new sink.old sink.new) result.0 }
     // Only `plan` and `gen` change files, and `plan` only where it isn't refused.
-    ensures kept { KeepsFiles (calm_call S.files S.faults K.taken K.faults words.now shelf.old shelf.new sink.old sink.new) result.0 }
+    ensures kept { KeepsFiles
+        (calm_call S.files S.faults K.taken K.faults words.now shelf.old shelf.new sink.old sink.new) result.0 }
 {
     accepted_plans_are_safe();
     stated_words_are_read();
@@ -97,7 +109,8 @@ fn run_words<R: Threads + Sync, S: Shelf>(
     words: &[String],
     shelf: &mut S,
 ) -> Result<Vec<u8>, Stop>
-    ensures step { Follows (λ v. v.items) (asked_steps (calm_of (asked_of (texts_of words.now)))) (S.files shelf.old) (S.files shelf.new) result }
+    ensures step { Follows (λ v. v.items) (asked_steps (calm_of (asked_of (texts_of words.now))))
+        (S.files shelf.old) (S.files shelf.new) result }
     ensures kept { ¬ StoresFiles (calm_of (asked_of (texts_of words.now))) → S.files shelf.new ≡ S.files shelf.old }
     ensures cause { HasCause (S.faults shelf.old) (S.faults shelf.new) result }
     ensures later { IsLater (S.faults shelf.old) (S.faults shelf.new) }
@@ -116,7 +129,8 @@ pub fn run_asked<R: Threads + Sync, S: Shelf>(
     shelf: &mut S,
 ) -> Result<Vec<u8>, Stop>
     requires { HasRanges (option_map command_of asked) }
-    ensures step { Follows (λ v. v.items) (asked_steps (calm_of (option_map command_of asked.entry))) (S.files shelf.old) (S.files shelf.new) result }
+    ensures step { Follows (λ v. v.items) (asked_steps (calm_of (option_map command_of asked.entry)))
+        (S.files shelf.old) (S.files shelf.new) result }
     ensures kept { ¬ StoresFiles (calm_of (option_map command_of asked.entry)) → S.files shelf.new ≡ S.files shelf.old }
     ensures cause { HasCause (S.faults shelf.old) (S.faults shelf.new) result }
     ensures later { IsLater (S.faults shelf.old) (S.faults shelf.new) }
@@ -135,7 +149,8 @@ fn run_command<R: Threads + Sync, S: Shelf>(
     shelf: &mut S,
 ) -> Result<Vec<u8>, Stop>
     requires { HasRanges (Some (command_of asked)) }
-    ensures step { Follows (λ v. v.items) (asked_steps (calm_of (Some (command_of asked.entry)))) (S.files shelf.old) (S.files shelf.new) result }
+    ensures step { Follows (λ v. v.items) (asked_steps (calm_of (Some (command_of asked.entry))))
+        (S.files shelf.old) (S.files shelf.new) result }
     ensures kept { ¬ StoresFiles (calm_of (Some (command_of asked.entry))) → S.files shelf.new ≡ S.files shelf.old }
     ensures cause { HasCause (S.faults shelf.old) (S.faults shelf.new) result }
     ensures later { IsLater (S.faults shelf.old) (S.faults shelf.new) }

@@ -37,7 +37,8 @@ pub fn world_of<S: Shelf>(
     asked: WorldAsked<'_>,
 ) -> Result<World, Stop>
     requires { cycles ≤ MAX_CYCLES }
-    ensures step { Follows (λ w. w) (world_steps (source_of asked.entry) accepted.now.plant accepted.now.bundles cycles) (S.files shelf.old) (S.files shelf.new) result }
+    ensures step { Follows (λ w. w) (world_steps (source_of asked.entry) accepted.now.plant accepted.now.bundles cycles)
+        (S.files shelf.old) (S.files shelf.new) result }
     ensures fits { IfOk result (Fits accepted.now.plant accepted.now.bundles) }
     ensures count { IfOk result (λ w. length w.rows ≡ cycles) }
     ensures kept { S.files shelf.new ≡ S.files shelf.old }
@@ -71,7 +72,8 @@ fn load_world<S: Shelf>(
     name: &str,
 ) -> Result<World, Stop>
     requires { cycles ≤ MAX_CYCLES }
-    ensures step { Follows (λ w. w) (world_steps (by_file name.now) accepted.now.plant accepted.now.bundles cycles) (S.files shelf.old) (S.files shelf.new) result }
+    ensures step { Follows (λ w. w) (world_steps (by_file name.now) accepted.now.plant accepted.now.bundles cycles)
+        (S.files shelf.old) (S.files shelf.new) result }
     ensures fits { IfOk result (Fits accepted.now.plant accepted.now.bundles) }
     ensures count { IfOk result (λ w. length w.rows ≡ cycles) }
     ensures kept { S.files shelf.new ≡ S.files shelf.old }

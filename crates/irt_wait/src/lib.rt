@@ -45,34 +45,46 @@ pub fn irt<R: Threads + Wait + Sync, S: Shelf, K: Sink>(
     sink: &mut K,
 ) -> Status
     // The status, what was printed and the files after the call are those of the words' steps.
-    ensures ends { FollowsSteps (call S.files S.faults K.taken K.faults words.now shelf.old shelf.new sink.old sink.new) result.0 }
+    ensures ends { FollowsSteps
+        (call S.files S.faults K.taken K.faults words.now shelf.old shelf.new sink.old sink.new) result.0 }
     // A text with this status was printed, and its cause holds; or there was a fault, or want of memory.
-    ensures cause { TellsCause (call S.files S.faults K.taken K.faults words.now shelf.old shelf.new sink.old sink.new) result.0 }
+    ensures cause { TellsCause
+        (call S.files S.faults K.taken K.faults words.now shelf.old shelf.new sink.old sink.new) result.0 }
     // Over files that are told, each cause has its status, but for faults and want of memory.
-    ensures exact { HasEveryCause (call S.files S.faults K.taken K.faults words.now shelf.old shelf.new sink.old sink.new) result.0 }
+    ensures exact { HasEveryCause
+        (call S.files S.faults K.taken K.faults words.now shelf.old shelf.new sink.old sink.new) result.0 }
     // A plan that is accepted is safe over every world.
-    ensures safe { IsSafeWhereAccepted (call S.files S.faults K.taken K.faults words.now shelf.old shelf.new sink.old sink.new) result.0 }
+    ensures safe { IsSafeWhereAccepted
+        (call S.files S.faults K.taken K.faults words.now shelf.old shelf.new sink.old sink.new) result.0 }
     // Status 0 of `run` and `free`: what was printed is the text of exactly one record, that of the run; and from blocks that
     // the checker accepts, for every table of clock errors, bridge delays and cut links and every interleaving of the
     // threads, no two frames occupy a link direction at once; each due frame reaches exactly its receivers with a live
     // route, by its planned time; and each buffer taken is whole, one publication, never older than the last, of its
     // planned cycle where taken inside its window.
-    ensures ran { RunsSafely (call S.files S.faults K.taken K.faults words.now shelf.old shelf.new sink.old sink.new) result.0 }
+    ensures ran { RunsSafely
+        (call S.files S.faults K.taken K.faults words.now shelf.old shelf.new sink.old sink.new) result.0 }
     // Status 1 is of words that are no command, whatever the shelf is.
-    ensures usage { TellsUsage (call S.files S.faults K.taken K.faults words.now shelf.old shelf.new sink.old sink.new) result.0 }
+    ensures usage { TellsUsage
+        (call S.files S.faults K.taken K.faults words.now shelf.old shelf.new sink.old sink.new) result.0 }
     // Words that state a command are never usage.
-    ensures stated { TakesStated (call S.files S.faults K.taken K.faults words.now shelf.old shelf.new sink.old sink.new) result.0 }
+    ensures stated { TakesStated
+        (call S.files S.faults K.taken K.faults words.now shelf.old shelf.new sink.old sink.new) result.0 }
     // A fault of the shelf is one that it counted, and so is one of the sink.
-    ensures faults { TellsFaults (call S.files S.faults K.taken K.faults words.now shelf.old shelf.new sink.old sink.new) result.0 }
+    ensures faults { TellsFaults
+        (call S.files S.faults K.taken K.faults words.now shelf.old shelf.new sink.old sink.new) result.0 }
     ensures status { IsStatus result.0 }
     // What `plan` stores is first fit's plan, and safe over every world.
-    ensures stored { StoresSafePlan (call S.files S.faults K.taken K.faults words.now shelf.old shelf.new sink.old sink.new) result.0 }
+    ensures stored { StoresSafePlan
+        (call S.files S.faults K.taken K.faults words.now shelf.old shelf.new sink.old sink.new) result.0 }
     // Whatever becomes of it, `plan` changes no file but those of the devices, one after the other.
-    ensures order { StoresInOrder (call S.files S.faults K.taken K.faults words.now shelf.old shelf.new sink.old sink.new) }
+    ensures order { StoresInOrder
+        (call S.files S.faults K.taken K.faults words.now shelf.old shelf.new sink.old sink.new) }
     // What `gen` stores is the plant that it makes, under its name and nowhere else.
-    ensures generated { StoresPlant (call S.files S.faults K.taken K.faults words.now shelf.old shelf.new sink.old sink.new) result.0 }
+    ensures generated { StoresPlant
+        (call S.files S.faults K.taken K.faults words.now shelf.old shelf.new sink.old sink.new) result.0 }
     // Only `plan` and `gen` change files.
-    ensures kept { KeepsFiles (call S.files S.faults K.taken K.faults words.now shelf.old shelf.new sink.old sink.new) result.0 }
+    ensures kept { KeepsFiles
+        (call S.files S.faults K.taken K.faults words.now shelf.old shelf.new sink.old sink.new) result.0 }
 {
     accepted_plans_are_safe();
     stated_words_are_read();
@@ -96,7 +108,8 @@ fn run_words<R: Threads + Wait + Sync, S: Shelf, K: Sink>(
     shelf: &mut S,
     sink: &mut K,
 ) -> Status
-    ensures ends { FollowsSteps (call S.files S.faults K.taken K.faults words.now shelf.old shelf.new sink.old sink.new) result.0 }
+    ensures ends { FollowsSteps
+        (call S.files S.faults K.taken K.faults words.now shelf.old shelf.new sink.old sink.new) result.0 }
     ensures kept { ¬ StoresFiles (asked_of (texts_of words.now)) → S.files shelf.new ≡ S.files shelf.old }
 {
     match read_words(alloc, words) {
@@ -115,7 +128,8 @@ fn run_asked<R: Threads + Wait + Sync, S: Shelf, K: Sink>(
     asked: Option<FreeAsked<'_>>,
 ) -> Status
     requires { IsFreeOf (asked_of (texts_of words.now)) asked }
-    ensures ends { FollowsSteps (call S.files S.faults K.taken K.faults words.now shelf.old shelf.new sink.old sink.new) result.0 }
+    ensures ends { FollowsSteps
+        (call S.files S.faults K.taken K.faults words.now shelf.old shelf.new sink.old sink.new) result.0 }
     ensures kept { ¬ StoresFiles (asked_of (texts_of words.now)) → S.files shelf.new ≡ S.files shelf.old }
 {
     match asked {
