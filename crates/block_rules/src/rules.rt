@@ -1,7 +1,7 @@
 //! The rules that need no windows, by what they name.
 
 /// A rule of a device's blocks.
-#[derive(Clone, Copy, Debug, PartialEq, Eq)]
+#[derive(Clone, Copy, PartialEq, Eq)]
 pub enum BlockRule {
     /// By device.
     Device(DeviceRule),
@@ -12,7 +12,7 @@ pub enum BlockRule {
 }
 
 /// A rule of a device's blocks as a whole.
-#[derive(Clone, Copy, Debug, PartialEq, Eq)]
+#[derive(Clone, Copy, PartialEq, Eq)]
 pub enum DeviceRule {
     /// V1: the blocks repeat the plant's numbers.
     Header,
@@ -21,7 +21,7 @@ pub enum DeviceRule {
 }
 
 /// A rule of both sides' periods of a port, in every phase.
-#[derive(Clone, Copy, Debug, PartialEq, Eq)]
+#[derive(Clone, Copy, PartialEq, Eq)]
 pub enum PeriodRule {
     /// V10: red ends by the plant's red limit.
     RedLimit,

@@ -67,7 +67,7 @@ pub enum JournalRow {
 
 /// Where a row stands in its cycle: by kind, device and port, then by start in ns or by FrameID. What a kind does not
 /// order by is 0.
-#[derive(Clone, Copy, Debug, PartialEq, Eq, PartialOrd, Ord)]
+#[derive(Clone, Copy, PartialEq, Eq, PartialOrd, Ord)]
 pub struct RowKey {
     pub kind: u8,
     pub device: u8,

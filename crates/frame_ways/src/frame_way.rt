@@ -6,7 +6,7 @@ use irt_base::numbers::{DevId, FrameId, PortNo};
 use placement::layout::Layout;
 
 /// A frame comes to a device.
-#[derive(Clone, Copy, Debug, PartialEq, Eq)]
+#[derive(Clone, Copy, PartialEq, Eq)]
 pub struct Arrival {
     pub device: DevId,
     /// The port that receives it.
@@ -18,7 +18,7 @@ pub struct Arrival {
 }
 
 /// The way of a demand's frame, at all devices.
-#[derive(Debug, Drop)]
+#[derive(Drop)]
 pub struct FrameWay {
     pub frame: FrameId,
     /// By device, each in ratio 1, phase 1 and with offset 0.

@@ -21,7 +21,7 @@ use link_index::index::LinkIndex;
 use std::alloc::Global;
 
 /// A device to which a frame comes, or which provides it. All times are ns after the offset of the anchor.
-#[derive(Clone, Copy, Debug)]
+#[derive(Clone, Copy)]
 pub struct Stop {
     pub device: DevId,
     pub entry: Entry,

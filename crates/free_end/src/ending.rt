@@ -1,6 +1,6 @@
 //! The end of all exchanges.
 
-ghost use Rattle.std.specs.Prelude.{◌≡◌, ◌<◌, ℕ, [], ◌∷◌, length, slice_index_or, IfOk};
+ghost use Rattle.std.specs.Prelude.{◌≡◌, ◌<◌, ◌≤◌, ℕ, [], ◌∷◌, length, slice_index_or, vec_capacity, vec_len, IfOk};
 ghost use Rattle.std.specs.Vec.Iter.{into_iter_items};
 ghost use Rattle.free_end.specs.Closed.{AreParts};
 ghost use Rattle.free_end.specs.Ended.{HasEnded, HasLegalLog};
@@ -38,15 +38,45 @@ pub fn end_all<A: IsoApp, N: Naming + Firsts<A>>(
     ensures each { IfOk result (λ all. (app : ℕ) → app < length all →
         HasLegalLog A.reply A.next_state N.firsts plant.now app (slice_index_or all app [])) }
 {
-    let mut all = Vec::with_capacity(alloc, wires.len())?;
+    match Vec::with_capacity(alloc, wires.len()) {
+        Ok(mut all) => {
+            end_into(plant, wires, ports, jobs, &mut all);
+            Ok(Items::from_vec(all))
+        }
+        Err(_) => {
+            drop(wires);
+            drop(ports);
+            drop(jobs);
+            Err(NoMemory)
+        }
+    }
+}
+
+/// Closes all exchanges, and puts each app's turns into a list that has room for them.
+fn end_into<A: IsoApp, N: Naming + Firsts<A>>(
+    plant: &PlantState,
+    wires: Vec<Wire<N>>,
+    ports: Vec<Port<N>>,
+    jobs: Vec<Job<A, N>>,
+    all: &mut Vec<Items<Turn>>,
+)
+    requires ended { HasEnded N.start plant.now }
+    requires parts { AreParts N.start plant.now 0 wires.items ports.items jobs.items }
+    requires empty { all.old.items ≡ [] }
+    requires room { vec_len wires ≤ vec_capacity all.old }
+    ensures count { length all.new.items ≡ length wires.items }
+    ensures each { (app : ℕ) → app < length all.new.items →
+        HasLegalLog A.reply A.next_state N.firsts plant.now app (slice_index_or all.new.items app []) }
+{
     let mut ports = ports.into_iter();
     let mut jobs = jobs.into_iter();
     for wire in wires {
         let port = take_next(&mut ports);
         let job = take_next(&mut jobs);
-        all.push(end(plant, wire, port, job))?;
+        all.push_reserved(end(plant, wire, port, job));
     }
-    Ok(Items::from_vec(all))
+    drop(ports);
+    drop(jobs);
 }
 
 /// Closes the exchanges of an app that found all cycles, and gives its turns.

@@ -27,7 +27,7 @@ pub struct Locked<N: Naming> {
 }
 
 /// What came of a cycle that was tried.
-#[derive(Clone, Copy, Debug, PartialEq, Eq)]
+#[derive(Clone, Copy, PartialEq, Eq)]
 pub enum Tried {
     AllDone,
     /// So many cycles are done now.

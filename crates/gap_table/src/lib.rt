@@ -6,5 +6,3 @@
 
 pub mod slot;
 pub mod table;
-#[cfg(test)]
-mod tests;

@@ -11,7 +11,7 @@ use std::alloc::Global;
 use std::marker::Model;
 
 /// Slots that don't overlap, in the order of time.
-#[derive(Drop, Debug)]
+#[derive(Drop)]
 pub struct GapTable {
     slots: Vec<Slot>,
 }

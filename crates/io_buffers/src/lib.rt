@@ -10,6 +10,4 @@ pub mod plain;
 mod rows;
 pub mod shared;
 pub mod taken;
-#[cfg(test)]
-mod tests;
 pub mod views;

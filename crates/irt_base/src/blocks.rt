@@ -4,7 +4,7 @@ use crate::list::Items;
 use crate::numbers::FrameId;
 
 /// One frame at one device (an entry of PDIRFrameData).
-#[derive(Clone, Copy, Debug, PartialEq, Eq)]
+#[derive(Clone, Copy, PartialEq, Eq)]
 pub struct Entry {
     /// FrameSendOffset: the local time of the start in a due cycle, in ns.
     pub send_offset: u32,
@@ -22,7 +22,7 @@ pub struct Entry {
 }
 
 /// The frames at one device (PDIRFrameData), by ascending FrameID.
-#[derive(Debug, Drop)]
+#[derive(Drop)]
 pub struct FrameBlock {
     /// Whether the device forwards relative to the arrival.
     pub relative: bool,
@@ -38,28 +38,28 @@ pub struct Period {
 }
 
 /// The periods of one side of a port each.
-#[derive(Clone, Copy, Debug, PartialEq, Eq)]
+#[derive(Clone, Copy, PartialEq, Eq)]
 pub struct Assignment {
     pub tx: Period,
     pub rx: Period,
 }
 
 /// Which assignments hold in a phase, by number from 0.
-#[derive(Clone, Copy, Debug, PartialEq, Eq)]
+#[derive(Clone, Copy, PartialEq, Eq)]
 pub struct PhasePair {
     pub tx: u16,
     pub rx: u16,
 }
 
 /// The periods of one port.
-#[derive(Debug, Drop)]
+#[derive(Drop)]
 pub struct PortPeriods {
     pub assignments: Items<Assignment>,
     pub phases: Items<PhasePair>,
 }
 
 /// The periods of one device (PDIRBeginEndData), and its range of red FrameIDs.
-#[derive(Debug, Drop)]
+#[derive(Drop)]
 pub struct PeriodBlock {
     pub first: u16,
     pub last: u16,
@@ -67,14 +67,14 @@ pub struct PeriodBlock {
 }
 
 /// The delays of a port, in ns.
-#[derive(Clone, Copy, Debug, PartialEq, Eq)]
+#[derive(Clone, Copy, PartialEq, Eq)]
 pub struct PortDelay {
     pub tx: u32,
     pub rx: u32,
 }
 
 /// The delays of one device (PDIRGlobalData), in ns.
-#[derive(Debug, Drop)]
+#[derive(Drop)]
 pub struct GlobalBlock {
     pub uuid: [u8; 16],
     pub bridge: u32,
@@ -82,7 +82,7 @@ pub struct GlobalBlock {
 }
 
 /// How one device keeps its clock (PDSyncData).
-#[derive(Debug, Drop)]
+#[derive(Drop)]
 pub struct SyncBlock {
     pub subdomain: [u8; 16],
     /// PLLWindow: within how many ns the device is in step.
@@ -101,7 +101,7 @@ pub struct SyncBlock {
 }
 
 /// All that a device file holds: PDSyncData, then PDIRData round the three others.
-#[derive(Debug, Drop)]
+#[derive(Drop)]
 pub struct Bundle {
     pub sync: SyncBlock,
     pub slot: u16,
@@ -112,7 +112,7 @@ pub struct Bundle {
 }
 
 /// A side of a port.
-#[derive(Clone, Copy, Debug, PartialEq, Eq)]
+#[derive(Clone, Copy, PartialEq, Eq)]
 pub enum Side {
     Tx,
     Rx,

@@ -11,6 +11,4 @@ pub mod list;
 pub mod memory;
 pub mod numbers;
 pub mod plants;
-#[cfg(test)]
-mod tests;
 pub mod texts;

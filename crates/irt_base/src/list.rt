@@ -11,7 +11,7 @@ use std::slice::Iter;
 
 /// A growable list over `Vec`. A clause sees the list of its items, so two are equal in a clause
 /// where their items are.
-#[derive(Drop, Debug)]
+#[derive(Drop)]
 pub struct Items<T> {
     items: Vec<T>,
 }

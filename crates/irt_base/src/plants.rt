@@ -5,7 +5,7 @@ use crate::list::Items;
 use crate::numbers::{DevId, FrameId, PortNo};
 
 /// Whose clocks the devices follow.
-#[derive(Clone, Copy, Debug, PartialEq, Eq)]
+#[derive(Clone, Copy, PartialEq, Eq)]
 pub enum Clocks {
     /// Errors come from a table.
     World,
@@ -14,7 +14,7 @@ pub enum Clocks {
 }
 
 /// How a device forwards.
-#[derive(Clone, Copy, Debug, PartialEq, Eq)]
+#[derive(Clone, Copy, PartialEq, Eq)]
 pub enum Mode {
     /// At its own FrameSendOffset.
     Absolute,
@@ -30,7 +30,7 @@ pub enum Class {
 }
 
 /// What an application does.
-#[derive(Clone, Copy, Debug, PartialEq, Eq)]
+#[derive(Clone, Copy, PartialEq, Eq)]
 pub enum AppName {
     Copy,
     Counter,
@@ -39,7 +39,7 @@ pub enum AppName {
 }
 
 /// How clocks are kept by PTCP.
-#[derive(Clone, Copy, Debug, PartialEq, Eq)]
+#[derive(Clone, Copy, PartialEq, Eq)]
 pub struct SyncPlan {
     /// Cycles between two sync messages.
     pub send: u32,
@@ -54,7 +54,7 @@ pub struct SyncPlan {
 }
 
 /// A device. Its ports count from 1.
-#[derive(Debug, Drop)]
+#[derive(Drop)]
 pub struct Device {
     pub name: Items<u8>,
     pub mode: Mode,
@@ -75,7 +75,7 @@ pub struct Link {
 }
 
 /// A frame that one device provides to others.
-#[derive(Debug, Drop)]
+#[derive(Drop)]
 pub struct Demand {
     pub frame: FrameId,
     pub provider: DevId,
@@ -87,7 +87,7 @@ pub struct Demand {
 }
 
 /// Parcels from one device to another.
-#[derive(Clone, Copy, Debug, PartialEq, Eq)]
+#[derive(Clone, Copy, PartialEq, Eq)]
 pub struct Traffic {
     pub source: DevId,
     pub target: DevId,
@@ -101,7 +101,7 @@ pub struct Traffic {
 }
 
 /// The application of a device.
-#[derive(Clone, Copy, Debug, PartialEq, Eq)]
+#[derive(Clone, Copy, PartialEq, Eq)]
 pub struct App {
     pub device: DevId,
     pub kind: AppName,
@@ -109,7 +109,7 @@ pub struct App {
 }
 
 /// A whole plant.
-#[derive(Debug, Drop)]
+#[derive(Drop)]
 pub struct Plant {
     /// Send clock factor, in units of 31.25 microseconds.
     pub factor: u8,

@@ -6,7 +6,7 @@ ghost use Rattle.irt_block.specs.Reading.{is_of, kind_of};
 use crate::fault::BlockKind;
 
 /// What the bytes of a field have to be.
-#[derive(Clone, Copy, Debug, PartialEq, Eq)]
+#[derive(Clone, Copy, PartialEq, Eq)]
 pub enum ByteClass {
     /// Padding.
     Zero,

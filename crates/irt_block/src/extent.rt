@@ -6,7 +6,7 @@ ghost use Rattle.irt_block.specs.Reading.{input_of, missing_of};
 use crate::fault::{BlockFault, BlockKind};
 
 /// What holds the fields.
-#[derive(Clone, Copy, Debug, PartialEq, Eq)]
+#[derive(Clone, Copy, PartialEq, Eq)]
 pub enum Holder {
     /// The whole input.
     Input,
@@ -15,7 +15,7 @@ pub enum Holder {
 }
 
 /// Where the bytes end that a field may use, as an offset, and what holds them.
-#[derive(Clone, Copy, Debug, PartialEq, Eq)]
+#[derive(Clone, Copy, PartialEq, Eq)]
 pub struct Extent {
     pub end: usize,
     pub holder: Holder,

@@ -12,7 +12,7 @@ use byteorder::{BigEndian, ByteOrder};
 pub const HEADER: usize = 6;
 
 /// What a header says beside the length: BlockType and the version's two bytes.
-#[derive(Clone, Copy, Debug, PartialEq, Eq)]
+#[derive(Clone, Copy, PartialEq, Eq)]
 pub struct BlockId {
     pub kind: u16,
     pub high: u8,
@@ -20,7 +20,7 @@ pub struct BlockId {
 }
 
 /// A block whose header was read.
-#[derive(Clone, Copy, Debug)]
+#[derive(Clone, Copy)]
 pub struct Opened<'a> {
     /// What its fields may use.
     pub extent: Extent,

@@ -23,7 +23,7 @@ pub const DATA: BlockId = BlockId {
 };
 
 /// What PDIRData holds.
-#[derive(Debug, Drop)]
+#[derive(Drop)]
 pub struct Data {
     pub slot: u16,
     pub subslot: u16,

@@ -14,7 +14,7 @@ use std::marker::Model;
 
 /// Bytes in memory, taken in steps of at most so many. The calls of `put` are counted from 0, and
 /// those of given numbers fail.
-#[derive(Drop, Debug)]
+#[derive(Drop)]
 pub struct MemSink {
     sink: SureSink,
     script: CallScript,

@@ -10,7 +10,7 @@ use std::alloc::Global;
 use std::marker::Model;
 
 /// Counts calls from 0, and which of them fail. Its counts stand still at their last value.
-#[derive(Drop, Debug)]
+#[derive(Drop)]
 pub struct CallScript {
     fails: Vec<u32>,
     calls: u64,

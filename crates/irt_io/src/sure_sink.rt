@@ -9,7 +9,7 @@ use std::alloc::Global;
 use std::marker::Model;
 
 /// Bytes in memory, taken in steps of at most so many. No call answers `Failed`.
-#[derive(Drop, Debug)]
+#[derive(Drop)]
 pub struct SureSink {
     step: usize,
     bytes: Vec<u8>,

@@ -18,7 +18,7 @@ use std::alloc::Global;
 use std::marker::Model;
 
 /// The best walks from device 0 to every device, as a tree.
-#[derive(Drop, Debug)]
+#[derive(Drop)]
 pub struct ClockTree {
     parents: Parents,
     hops: [u8; MAX_DEVICES],

@@ -19,7 +19,7 @@ use link_index::index::LinkIndex;
 use std::alloc::Global;
 
 /// A plant's links, and the ways of all devices to each.
-#[derive(Drop, Debug)]
+#[derive(Drop)]
 pub struct Network {
     pub index: LinkIndex,
     pub ways: Items<NextHops>,

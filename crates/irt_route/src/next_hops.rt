@@ -10,14 +10,14 @@ use link_index::index::{LinkIndex, ROW};
 
 /// How a best walk begins: how many links it has, and by which port it leaves. At its end it has no
 /// link, and the port says nothing.
-#[derive(Clone, Copy, Debug)]
+#[derive(Clone, Copy)]
 pub struct NextHop {
     pub hops: u8,
     pub port: PortNo,
 }
 
 /// The ways of all devices to one.
-#[derive(Clone, Copy, Debug)]
+#[derive(Clone, Copy)]
 pub struct NextHops {
     pub target: DevId,
     pub table: [Option<NextHop>; MAX_DEVICES],

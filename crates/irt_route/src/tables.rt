@@ -10,7 +10,7 @@ use irt_base::numbers::{DevId, PortNo};
 use std::marker::Model;
 
 /// The tree of each demand, and the walk of each traffic entry.
-#[derive(Drop, Debug)]
+#[derive(Drop)]
 pub struct Routes {
     pub(crate) trees: Items<Parents>,
     pub(crate) walks: Items<Walk>,

@@ -4,7 +4,7 @@ use irt_base::memory::NoMemory;
 use std::alloc::AllocError;
 
 /// What a step ended a command for.
-#[derive(Clone, Copy, Debug, PartialEq, Eq)]
+#[derive(Clone, Copy, PartialEq, Eq)]
 pub enum Cause {
     /// The words are no command.
     Usage,
@@ -52,7 +52,7 @@ impl Cause {
 }
 
 /// Why a command stopped. Lines end with a line feed.
-#[derive(Debug, Drop)]
+#[derive(Drop)]
 pub enum Stop {
     /// Memory ran out.
     NoMemory,

@@ -16,7 +16,7 @@ use irt_base::numbers::FrameId;
 use std::alloc::Global;
 
 /// Where an entry stands in the order of release.
-#[derive(Clone, Copy, Debug, PartialEq, Eq, PartialOrd, Ord)]
+#[derive(Clone, Copy, PartialEq, Eq, PartialOrd, Ord)]
 pub struct ReleaseKey {
     pub offset: u32,
     pub frame: u16,

@@ -28,7 +28,7 @@ use std::marker::Model;
 
 /// The switch of one device, which knows its own blocks alone. A clause sees them, the cycle that was begun last, whether
 /// the device is in step in it, the frames that are still to be released in it, and the gates of the ports.
-#[derive(Drop, Debug)]
+#[derive(Drop)]
 pub struct Switch {
     bundle: Bundle,
     /// The entries of the frames that the device provides, in the order of release.

@@ -130,8 +130,27 @@ fn summary<R: Threads + Sync>(
         IsGenText (record { seed = seed; devices = devices; frames = frames; name = name }) bundles.now v.items) }
 {
     let accepted = accept(alloc, plant, bundles)?;
-    let log = run_accepted(rt, alloc, &accepted, seed)?;
-    gen_text(alloc, devices, frames, red_end(bundles), &log)
+    summary_of(rt, alloc, &accepted, seed, devices, frames)
+}
+
+/// The same of a plan that the rules accept.
+fn summary_of<R: Threads + Sync>(
+    rt: &R,
+    alloc: Global,
+    accepted: &Accepted,
+    seed: u64,
+    devices: u16,
+    frames: u16,
+) -> Result<Vec<u8>, NoMemory>
+    requires planned { ArePlanned accepted.now.plant accepted.now.bundles }
+    requires made { accepted.now.plant ≡ generated_plant seed devices frames }
+    ensures { (name : List ℕ) → IfOk result (λ v.
+        IsGenText (record { seed = seed; devices = devices; frames = frames; name = name })
+        accepted.now.bundles v.items) }
+{
+    accepted.facts();
+    let log = run_accepted(rt, alloc, accepted, seed)?;
+    gen_text(alloc, devices, frames, red_end(accepted.bundles()), &log)
 }
 
 /// A plan that the rules accept.

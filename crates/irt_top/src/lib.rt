@@ -1,8 +1,8 @@
 //! The top call: from the words of the command line, files and a sink to a status.
 #![tactic(auto)]
 
-mod check;
-mod files;
+pub mod check;
+pub mod files;
 mod generate;
 mod line;
 mod plan;

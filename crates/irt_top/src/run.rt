@@ -99,7 +99,7 @@ fn run_plan<T: Runs, S: Shelf>(
 }
 
 /// The plan, where the rules accept it.
-fn accepted(alloc: Global, plant: &Plant, bundles: &[Bundle]) -> Result<Accepted, Stop>
+pub fn accepted(alloc: Global, plant: &Plant, bundles: &[Bundle]) -> Result<Accepted, Stop>
     requires { IsPlan plant.now bundles.now }
     ensures step { Decides (λ a. tt) (accepted_steps plant.now bundles.now) result }
     ensures plan { IfOk result (λ a. (a.plant ≡ plant.now) × (a.bundles ≡ bundles.now)) }
@@ -134,7 +134,7 @@ fn run_accepted<T: Runs, S: Shelf>(
 }
 
 /// The routes of an accepted plan. All its consumers are reached.
-fn walked(alloc: Global, accepted: &Accepted) -> Result<Routes, Stop>
+pub fn walked(alloc: Global, accepted: &Accepted) -> Result<Routes, Stop>
     ensures step { Decides (λ r. r.walks) (walks_steps accepted.now.plant) result }
     ensures routes { IfOk result (IsRoutesOf accepted.now.plant) }
     ensures calm { IfErr result IsNoFault }
@@ -176,7 +176,12 @@ fn run_walked<T: Runs, S: Shelf>(
 }
 
 /// Ends the command where the run is too long.
-fn fit_size(alloc: Global, accepted: &Accepted, routes: &Routes, cycles: u32) -> Result<(), Stop>
+pub fn fit_size(
+    alloc: Global,
+    accepted: &Accepted,
+    routes: &Routes,
+    cycles: u32,
+) -> Result<(), Stop>
     requires routes { IsRoutesOf accepted.now.plant routes.now }
     requires cycles { IsWithin 1 MAX_CYCLES cycles }
     ensures step { Decides (λ u. u)

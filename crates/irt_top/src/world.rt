@@ -22,7 +22,7 @@ use world_file::fault::WorldFault;
 use world_file::reading::read_world;
 
 /// How a world is asked for: by a seed, or by the name of a file.
-#[derive(Clone, Copy, Debug, PartialEq, Eq)]
+#[derive(Clone, Copy, PartialEq, Eq)]
 pub enum WorldAsked<'a> {
     Seed(u64),
     File(&'a str),

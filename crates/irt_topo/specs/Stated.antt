@@ -81,8 +81,9 @@ stated_traffic devices t = record {
 abbrev pub stated_app : List RawDevice → RawApp → App
 stated_app devices a = record { device = stated_device_id devices a.device; kind = a.kind; param = a.param }
 
-abbrev pub stated_plant : RawPlant → Plant
-stated_plant p = record {
+-- the plant of these links and demands, and of what else a plant file states
+abbrev pub stated_wired : RawPlant → List Link → List Demand → Plant
+stated_wired p links demands = record {
   factor = in_byte p.factor;
   window = p.window;
   red_max = p.red_max;
@@ -90,8 +91,11 @@ stated_plant p = record {
   clocks = p.clocks;
   sync = stated_sync p.sync;
   devices = map stated_device p.devices;
-  links = map (stated_link p.devices) p.links;
-  demands = map (stated_demand p.devices) p.demands;
+  links = links;
+  demands = demands;
   traffic = map (stated_traffic p.devices) p.traffic;
   apps = map (stated_app p.devices) p.apps;
 }
+
+abbrev pub stated_plant : RawPlant → Plant
+stated_plant p = stated_wired p (map (stated_link p.devices) p.links) (map (stated_demand p.devices) p.demands)

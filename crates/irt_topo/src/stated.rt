@@ -2,7 +2,7 @@
 
 ghost use Rattle.std.specs.Prelude.{◌≡◌, IfOk, bytes_eq, map};
 ghost use Rattle.std.specs.List.{position_from};
-ghost use Rattle.irt_topo.specs.Stated.{in_byte, in_two_bytes, device_number, stated_device_id, stated_port_no, stated_port, stated_sync, stated_device, stated_link, stated_demand, stated_traffic, stated_app, stated_plant};
+ghost use Rattle.irt_topo.specs.Stated.{in_byte, in_two_bytes, device_number, stated_device_id, stated_port_no, stated_port, stated_sync, stated_device, stated_link, stated_demand, stated_traffic, stated_app, stated_wired, stated_plant};
 
 use irt_base::blocks::PortDelay;
 use irt_base::list::Items;
@@ -18,9 +18,29 @@ use std::alloc::Global;
 pub fn stated_plant(alloc: Global, raw: RawPlant) -> Result<Plant, NoMemory>
     ensures { IfOk result (λ p. p ≡ stated_plant raw) }
 {
+    stated_whole(alloc, &raw)
+}
+
+/// The plant that a plant file states, whose shape is kept.
+fn stated_whole(alloc: Global, raw: &RawPlant) -> Result<Plant, NoMemory>
+    ensures { IfOk result (λ p. p ≡ stated_plant raw.now) }
+{
     let known = raw.devices.as_slice();
     let links = stated_links(alloc, known, raw.links.as_slice())?;
     let demands = stated_demands(alloc, known, raw.demands.as_slice())?;
+    stated_wired(alloc, raw, links, demands)
+}
+
+/// The plant of these links and demands, and of what else a plant file states.
+fn stated_wired(
+    alloc: Global,
+    raw: &RawPlant,
+    links: Items<Link>,
+    demands: Items<Demand>,
+) -> Result<Plant, NoMemory>
+    ensures { IfOk result (λ p. p ≡ stated_wired raw.now links demands) }
+{
+    let known = raw.devices.as_slice();
     let traffic = stated_traffics(alloc, known, raw.traffic.as_slice())?;
     let apps = stated_apps(alloc, known, raw.apps.as_slice())?;
     let devices = stated_devices(alloc, known)?;

@@ -143,7 +143,7 @@ fn run_asked<R: Threads + Wait + Sync, S: Shelf, K: Sink>(
 }
 
 /// What `free` is asked for with.
-#[derive(Clone, Copy, Debug)]
+#[derive(Clone, Copy)]
 struct FreeAsked<'a> {
     plant: &'a str,
     cycles: u32,

@@ -12,7 +12,7 @@ use irt_base::blocks::Entry;
 use irt_base::numbers::{DevId, FrameId, PortNo};
 
 /// Who sends a frame to a device, by which port, and at which place of its block it has the frame.
-#[derive(Clone, Copy, Debug)]
+#[derive(Clone, Copy)]
 pub struct Parent {
     pub device: DevId,
     pub port: PortNo,

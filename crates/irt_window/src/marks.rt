@@ -12,7 +12,7 @@ use plan_rules::way::Way;
 use std::alloc::Global;
 
 /// The ways of the entries that are found so far, by device and place in its block.
-#[derive(Debug, Drop)]
+#[derive(Drop)]
 pub struct Marks {
     pub rows: Vec<Items<Option<Way>>>,
     /// How many entries have none yet.

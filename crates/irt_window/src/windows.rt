@@ -12,7 +12,7 @@ use plan_rules::way::Way;
 use thiserror::Error;
 
 /// The ways of all entries of a plan, by device and place in its block.
-#[derive(Debug, Drop)]
+#[derive(Drop)]
 pub struct Windows {
     pub(crate) entries: Items<Items<Entry>>,
     pub(crate) ways: Items<Items<Way>>,
@@ -23,7 +23,7 @@ pub struct Windows {
 
 /// When a device sends a frame: its least and its greatest start, in ns of the local time of the anchor, which
 /// is the nearest device on the way that starts the frame by a FrameSendOffset.
-#[derive(Clone, Copy, Debug, PartialEq, Eq)]
+#[derive(Clone, Copy, PartialEq, Eq)]
 pub struct Window {
     pub lo: i64,
     pub hi: i64,
@@ -31,7 +31,7 @@ pub struct Window {
 }
 
 /// Whether rule V2 holds.
-#[derive(Debug, Drop)]
+#[derive(Drop)]
 pub enum Trees {
     /// It does, and each entry has a way.
     Whole(Windows),

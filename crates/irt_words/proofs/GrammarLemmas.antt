@@ -1,7 +1,7 @@
 -- Commands that are built argument by argument.
 use Rattle.std.proofs.Common.{◌≡◌, ◌<◌, ◌+◌, ℕ, List, [], ◌∷◌, ◌++◌, length, map, take, slice_index_or, Bor, Bool, false, ◌||◌, sym, ◌∙◌, ap, ap₂}
 use Rattle.std.proofs.lemmas.List.{map-append, take_more}
-use Rattle.clap.specs.Words.{AddsArg, AddsSubcommand, App, Rule, Shape, Text, app_of, rule_of, with_rule, with_subcommand}
+use Rattle.clap.specs.Words.{AddsArg, App, Rule, Shape, Text, rule_of, with_rule}
 use Rattle.clap.specs.declared.builder.arg.Arg.{Arg}
 use Rattle.clap.specs.declared.builder.command.Command.{Command}
 use Rattle.irt_words.specs.Grammar.{IsLeaf, required, required_all, subcommand}
@@ -31,7 +31,3 @@ leaf_at old new a name arguments k d inside is adds same local =
       app = more.app ∙ ap (λ rules. leaf (subcommand name rules)) (sym (ap (map required) read ∙ map-append required names (next ∷ [])));
       local = more.local;
     }
-
--- one more subcommand
-pub with_leaf : (old sub new : Command) (app : App) (shape : Shape) → app_of old ≡ app → IsLeaf sub shape → AddsSubcommand old sub new → app_of new ≡ with_subcommand app shape
-with_leaf old sub new app shape old_is sub_is adds = adds.shape sub_is.local ∙ ap₂ with_subcommand old_is (ap (λ (a : App). a.top) sub_is.app)

@@ -8,7 +8,7 @@ pub const MAX_SEED: u64 = 18446744073709551615;
 
 /// A command with its checked arguments. Names of files are not empty, CYCLES is 1..10000, and a generated
 /// plant has 2..64 devices and at most 512 frames.
-#[derive(Clone, Copy, Debug, PartialEq, Eq)]
+#[derive(Clone, Copy, PartialEq, Eq)]
 pub enum Asked<'a> {
     /// `plan PLANT`
     Plan {

@@ -16,7 +16,7 @@ use std::marker::Model;
 pub const FRAMES: u32 = 65536;
 
 /// An entry by which a relative device sends on what it receives, and the device's range of bridge delays, in ns.
-#[derive(Clone, Copy, Debug, PartialEq, Eq)]
+#[derive(Clone, Copy, PartialEq, Eq)]
 pub struct Forwarding {
     pub device: DevId,
     pub frame: FrameId,
@@ -25,7 +25,7 @@ pub struct Forwarding {
 }
 
 /// The forwardings of a plan, by number. They stand in the order of their devices, then of their FrameIDs.
-#[derive(Drop, Debug)]
+#[derive(Drop)]
 pub struct Forwardings {
     items: Items<Forwarding>,
 }

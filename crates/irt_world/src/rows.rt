@@ -12,7 +12,7 @@ use irt_base::numbers::DevId;
 use irt_base::plants::Plant;
 
 /// What the outside does in one send cycle.
-#[derive(Debug, Drop)]
+#[derive(Drop)]
 pub struct Row {
     /// By device: how far its cycle begins after the true one, in ns.
     pub errors: Items<i64>,
@@ -23,7 +23,7 @@ pub struct Row {
 }
 
 /// A row for each send cycle, from 0.
-#[derive(Debug, Drop)]
+#[derive(Drop)]
 pub struct World {
     pub rows: Items<Row>,
 }

@@ -8,3 +8,4 @@ pub mod Stepped
 pub mod Handing
 pub mod Widths
 pub mod Beginning
+pub mod Ready

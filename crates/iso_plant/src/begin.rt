@@ -1,8 +1,10 @@
 //! The parts of a plant before cycle 0.
 
-ghost use Rattle.std.specs.Prelude.{IfOk};
+ghost use Rattle.std.specs.Prelude.{◌≡◌, [], IfOk, Ok};
+ghost use Rattle.irt_net.specs.Net.{Carries, HasRoomFor};
 ghost use Rattle.irt_route.specs.Routes.{IsRoutesOf};
 ghost use Rattle.iso_plant.specs.Made.{AreBlank, AreReady};
+ghost use Rattle.parcel_rules.specs.Loads.{no_loads};
 ghost use Rattle.plan_rules.specs.Places.{IsAccepted};
 ghost use Rattle.plan_rules.specs.Plan.{IsPlan};
 
@@ -53,14 +55,40 @@ pub(crate) fn new_machines(
 {
     accepted.facts();
     let net = Net::new(alloc, accepted, routes)?;
-    let stations = Stations::new(alloc, accepted.plant(), accepted.bundles())?;
-    let mut journal = Journal::new(alloc);
-    net.reserve(&mut journal, cycles)?;
+    let journal = new_journal(alloc, &net, cycles);
+    let written = with(net, journal)?;
+    let stations = Stations::new(alloc, accepted.plant(), accepted.bundles());
+    let ((net, journal), stations) = with(written, stations)?;
     Ok(Machines {
         net,
         stations,
         journal,
     })
+}
+
+/// A journal with room for so many cycles of a network.
+///
+/// # Errors
+/// `NoMemory` where memory runs out.
+fn new_journal(alloc: Global, net: &Net, cycles: u32) -> Result<Journal, NoMemory>
+    requires { Carries net.now no_loads }
+    ensures rows { IfOk result (λ journal. journal.rows ≡ []) }
+    ensures room { IfOk result (λ journal. HasRoomFor net.now cycles journal.room) }
+{
+    let mut journal = Journal::new(alloc);
+    net.reserve(&mut journal, cycles)?;
+    Ok(journal)
+}
+
+/// What was made, with what came next.
+///
+/// # Errors
+/// Where that failed. What was made is dropped.
+fn with<T: Drop, U>(made: T, next: Result<U, NoMemory>) -> Result<(T, U), NoMemory>
+    ensures made { IfOk result (λ both. both.0 ≡ made) }
+    ensures next { IfOk result (λ both. next ≡ Ok both.1) }
+{
+    Ok((made, next?))
 }
 
 /// The apps of an accepted plan, an empty history of each with room for so many cycles, and zeros as what was sent and

@@ -14,7 +14,7 @@ use std::marker::Model;
 
 /// What a run leaves of an app: takes of its output and images published to its input, by cycle. Words for further ones
 /// are made beforehand. A clause sees the takes and the images, their widths, and for how many more there is room.
-#[derive(Drop, Debug)]
+#[derive(Drop)]
 pub struct AppHistory {
     takes: Vec<Take>,
     images: Vec<Items<u64>>,

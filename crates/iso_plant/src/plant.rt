@@ -43,7 +43,7 @@ pub struct PlantState {
 }
 
 /// What a run leaves: of each app, and the journal.
-#[derive(Drop, Debug)]
+#[derive(Drop)]
 pub struct History {
     pub apps: Items<AppHistory>,
     pub journal: Items<JournalRow>,
@@ -186,10 +186,22 @@ impl PlantState {
         ensures replay { IsReplay self }
     {
         let PlantState {
-            histories,
+            net,
+            stations,
+            world,
             journal,
+            apps,
+            histories,
+            outputs,
+            images,
             ..
         } = self;
+        drop(net);
+        drop(stations);
+        drop(world);
+        drop(apps);
+        drop(outputs);
+        drop(images);
         History {
             apps: Items::from_vec(histories),
             journal: journal.into_rows(),

@@ -4,7 +4,7 @@ use io_buffers::taken::Taken;
 use irt_base::list::Items;
 
 /// What an application did in a turn.
-#[derive(Debug, Drop)]
+#[derive(Drop)]
 pub struct Turn {
     /// How many cycles were done.
     pub found: u32,

@@ -20,7 +20,7 @@ use std::alloc::Global;
 use std::marker::Model;
 
 /// What becomes of a frame that comes.
-#[derive(Clone, Copy, Debug, PartialEq, Eq)]
+#[derive(Clone, Copy, PartialEq, Eq)]
 pub enum Accept {
     /// Its words are kept.
     Taken,
@@ -30,7 +30,7 @@ pub enum Accept {
 
 /// The consumer of a device: what came of each frame that the device consumes. A clause sees this, the send clock
 /// factor, and the cycle that goes on.
-#[derive(Drop, Debug)]
+#[derive(Drop)]
 pub struct Consumer {
     factor: u16,
     cycle: u32,

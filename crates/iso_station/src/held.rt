@@ -17,7 +17,7 @@ use std::alloc::Global;
 use std::marker::Model;
 
 /// A frame that the device consumes, with what came of it. A clause sees all of it.
-#[derive(Drop, Debug)]
+#[derive(Drop)]
 pub struct HeldFrame {
     entry: Entry,
     words: Vec<u64>,

@@ -24,7 +24,7 @@ const ROOM: usize = MAX_DATA as usize;
 
 /// The provider of a device. A clause sees the device, the send clock factor, and the entries of the frames that it
 /// provides.
-#[derive(Drop, Debug)]
+#[derive(Drop)]
 pub struct Provider {
     device: DevId,
     factor: u16,

@@ -4,13 +4,14 @@ ghost use Rattle.std.specs.Prelude.{◌<◌, ◌^◌, ◌-◌, length};
 ghost use Rattle.irt_route.specs.Routes.{IsRoutesOf};
 
 use crate::cuts::{is_short, refused_cuts};
-use crate::plan::{fit_size, load_plan, walks_of};
+use crate::plan::load_plan;
 use crate::words::Asked;
 use irt_base::memory::NoMemory;
 use irt_io::shelf::Shelf;
 use irt_route::tables::Routes;
 use irt_steps::load::load_file;
 use irt_steps::stop::Stop;
+use irt_top::run::{fit_size, walked};
 use plan_check::accepted::Accepted;
 use plan_run::law::worlds_and_walks_are_one;
 use plan_run::run::kinds_of;
@@ -31,12 +32,22 @@ pub fn judge_texts<S: Shelf>(
     asked: Asked<'_>,
 ) -> Result<Vec<u8>, Stop> {
     let accepted = load_plan(alloc, shelf, asked.plant)?;
-    let routes = walks_of(alloc, &accepted)?;
-    fit_size(alloc, &accepted, &routes, asked.cycles)?;
-    judge_files(alloc, shelf, &accepted, &routes, asked)
+    judge_plan(alloc, shelf, &accepted, asked)
 }
 
 /// The same of a plan that was accepted.
+fn judge_plan<S: Shelf>(
+    alloc: Global,
+    shelf: &mut S,
+    accepted: &Accepted,
+    asked: Asked<'_>,
+) -> Result<Vec<u8>, Stop> {
+    let routes = walked(alloc, accepted)?;
+    fit_size(alloc, accepted, &routes, asked.cycles)?;
+    judge_files(alloc, shelf, accepted, &routes, asked)
+}
+
+/// The same along the plan's routes.
 fn judge_files<S: Shelf>(
     alloc: Global,
     shelf: &mut S,

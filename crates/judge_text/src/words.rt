@@ -6,7 +6,7 @@ ghost use Rattle.irt_base.specs.declared.limits.TheConstants.{MAX_CYCLES};
 use irt_base::limits::MAX_CYCLES;
 
 /// What is asked for: the file of a plant, a world, and the files of texts.
-#[derive(Clone, Copy, Debug)]
+#[derive(Clone, Copy)]
 pub struct Asked<'a> {
     pub plant: &'a str,
     pub cycles: u32,

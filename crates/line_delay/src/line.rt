@@ -25,7 +25,7 @@ pub enum LineFault {
 }
 
 /// The newest half rounds of a link. A clause sees the list of them, the oldest first.
-#[derive(Drop, Debug)]
+#[derive(Drop)]
 pub struct LineDelay {
     halves: [u32; WINDOW],
     count: usize,

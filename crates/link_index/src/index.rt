@@ -18,7 +18,7 @@ use std::marker::Model;
 pub const ROW: usize = MAX_PORTS + 1;
 
 /// The other end of a port's link, how long a hop there takes, in ns, and the number of the link in its plant.
-#[derive(Clone, Copy, Debug)]
+#[derive(Clone, Copy)]
 pub struct Wire {
     pub device: DevId,
     pub port: PortNo,
@@ -28,7 +28,7 @@ pub struct Wire {
 
 /// The links of a plant by device and port. A clause sees a row for each device, with a place for each
 /// port number up to the greatest; `IsIndexOf` says which plant the rows are of.
-#[derive(Drop, Debug)]
+#[derive(Drop)]
 pub struct LinkIndex {
     rows: Items<[Option<Wire>; ROW]>,
 }

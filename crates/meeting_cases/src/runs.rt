@@ -23,7 +23,7 @@ use std::thread::Threads;
 const SEED: u64 = 7;
 
 /// How applications turn.
-#[derive(Clone, Copy, Debug)]
+#[derive(Clone, Copy)]
 pub enum Pace {
     InLockstep,
     Freely,

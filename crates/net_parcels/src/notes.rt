@@ -13,7 +13,7 @@ use std::marker::Model;
 
 /// The rows of parcels that were refused in a cycle and of those that have come, each in the order of handing over, with
 /// room for so many in all.
-#[derive(Drop, Debug)]
+#[derive(Drop)]
 pub struct Notes {
     refused: Vec<JournalRow>,
     came: Vec<JournalRow>,

@@ -11,7 +11,7 @@ use std::marker::Model;
 
 /// The parcels that a port has sent in a cycle, in their order, with room for all that may wait there. A clause sees the
 /// list of them.
-#[derive(Drop, Debug)]
+#[derive(Drop)]
 pub struct Outbox {
     sent: Vec<Sent>,
 }

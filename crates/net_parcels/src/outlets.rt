@@ -17,7 +17,7 @@ use net_site::site::Site;
 use std::alloc::Global;
 
 /// A port of the plant, with what it sends in a cycle.
-#[derive(Drop, Debug)]
+#[derive(Drop)]
 pub struct Outlet {
     pub at: (DevId, PortNo),
     /// The place, in the list of all ports, of the port at the other end of its link.

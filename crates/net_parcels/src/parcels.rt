@@ -30,7 +30,7 @@ use std::marker::Model;
 
 /// The parcels of a network that are on the way, and the walks that they take. A clause sees the ports of the plant, the
 /// steps of the walks, the parcels, and how many may be handed over in a cycle.
-#[derive(Drop, Debug)]
+#[derive(Drop)]
 pub struct Parcels {
     outlets: Vec<Outlet>,
     steps: Vec<Items<(DevId, PortNo)>>,

@@ -29,7 +29,7 @@ use std::marker::Model;
 
 /// A plant with its links and the entries whose frames a row delays, found by index. A clause sees the plant and these
 /// entries.
-#[derive(Drop, Debug)]
+#[derive(Drop)]
 pub struct Site {
     plant: Plant,
     links: LinkIndex,

@@ -12,7 +12,7 @@ use std::alloc::Global;
 use std::marker::Model;
 
 /// The parcels that links bring to the next cycle, in the order in which they are handed over, with room for so many.
-#[derive(Drop, Debug)]
+#[derive(Drop)]
 pub struct Flight {
     parcels: Vec<Handed>,
     room: usize,

@@ -14,7 +14,7 @@ use parcel_rules::handed::Handed;
 use period_gate::parcels::{Offered, Parcel};
 
 /// What became of a parcel that was handed over.
-#[derive(Clone, Copy, Debug, PartialEq, Eq)]
+#[derive(Clone, Copy, PartialEq, Eq)]
 pub enum Passed {
     /// It has come to its target.
     Came,

@@ -4,6 +4,7 @@ use std::alloc::Global;
 use std::process::Abort;
 use std::test::Fail;
 use swap_core::runs::run_steps;
+use swap_core::slots::Core;
 use swap_core::steps::{Seen, Step};
 
 // Makes the steps, and compares what they see.
@@ -119,9 +120,9 @@ fn a_publication_during_a_take_leaves_its_words(rt: HostRuntime) -> Result<(), F
 
 #[test]
 fn steps_one_by_one(rt: HostRuntime) -> Result<(), Fail> {
-    let mut core = swap_core::slots::Core::new(rt.alloc(), 1)?;
-    assert_eq!(rt; core.published(), 0);
-    assert_eq!(rt; core.step(Step::Publish), Seen::Published { number: 1 });
-    assert_eq!(rt; core.published(), 1);
+    let mut core = Core::new(rt.alloc(), 1)?;
+    assert!(rt; core.published() == 0);
+    assert!(rt; core.step(Step::Publish) == Seen::Published { number: 1 });
+    assert!(rt; core.published() == 1);
     Ok(())
 }

@@ -1,2 +1,3 @@
 pub mod GlobalLaws
+pub mod SyncGroups
 pub mod SyncLaws

@@ -2,6 +2,9 @@
 use Rattle.std.specs.Prelude.{ℕ, ◌-◌, ◌%◌, List, ◌++◌, length, replicate, Ok}
 use Rattle.irt_base.specs.declared.limits.TheConstants.{MAX_WINDOW, MAX_FACTOR, MAX_DOMAIN_NAME}
 use Rattle.irt_base.specs.declared.blocks.SyncBlock.{SyncBlock}
+use Rattle.pd_blocks.specs.declared.sync.Sending.{Sending}
+use Rattle.pd_blocks.specs.declared.sync.Times.{Times}
+use Rattle.pd_blocks.specs.declared.sync.Role.{Role}
 use Rattle.irt_block.specs.declared.header.BlockId.{BlockId}
 use Rattle.irt_block.specs.declared.bytes.ByteClass.TheVariants.{Letter}
 use Rattle.irt_block.specs.Reading.{◌>>=◌, Reader, spelled, raw_at, number_at, ruled_at, within, constant_at, class_at, pad_at}
@@ -80,6 +83,68 @@ sync_fields_at extent rest = do
       name = name.0;
     },
     last.1,
+  )
+
+-- ---- the same by groups of fields
+
+abbrev pub domain_at : Reader (List ℕ)
+domain_at extent rest = do
+  pad ← pad_at 2 extent rest
+  subdomain ← raw_at 16 extent pad.1
+  reserved_begin ← constant_at 4 0 extent subdomain.1
+  reserved_end ← constant_at 4 0 extent reserved_begin.1
+  Ok (subdomain.0, reserved_end.1)
+
+abbrev pub sending_at : Reader Sending
+sending_at extent rest = do
+  window ← ruled_at 4 (within 0 MAX_WINDOW) extent rest
+  send ← number_at 4 extent window.1
+  factor ← ruled_at 2 (within 1 MAX_FACTOR) extent send.1
+  Ok (record { window = window.0; send = send.0; factor = factor.0 }, factor.1)
+
+abbrev pub times_at : Reader Times
+times_at extent rest = do
+  timeout ← number_at 2 extent rest
+  takeover ← number_at 2 extent timeout.1
+  startup ← number_at 2 extent takeover.1
+  Ok (record { timeout = timeout.0; takeover = takeover.0; startup = startup.0 }, startup.1)
+
+abbrev pub role_at : Reader Role
+role_at extent rest = do
+  properties ← number_at 2 extent rest
+  priority1 ← number_at 1 extent properties.1
+  priority2 ← number_at 1 extent priority1.1
+  Ok (record { properties = properties.0; priority1 = priority1.0; priority2 = priority2.0 }, priority2.1)
+
+abbrev pub domain_name_at : Reader (List ℕ)
+domain_name_at extent rest = do
+  letters ← ruled_at 1 (within 1 MAX_DOMAIN_NAME) extent rest
+  name ← class_at Letter letters.0 extent letters.1
+  last ← pad_at (last_pad letters.0) extent name.1
+  Ok (name.0, last.1)
+
+abbrev pub sync_groups_at : Reader SyncBlock
+sync_groups_at extent rest = do
+  subdomain ← domain_at extent rest
+  sending ← sending_at extent subdomain.1
+  times ← times_at extent sending.1
+  role ← role_at extent times.1
+  name ← domain_name_at extent role.1
+  Ok (
+    record {
+      subdomain = subdomain.0;
+      window = sending.0.window;
+      send = sending.0.send;
+      factor = sending.0.factor;
+      timeout = times.0.timeout;
+      takeover = times.0.takeover;
+      startup = times.0.startup;
+      properties = role.0.properties;
+      priority1 = role.0.priority1;
+      priority2 = role.0.priority2;
+      name = name.0;
+    },
+    name.1,
   )
 
 -- a sync block off the front of the bytes that are left

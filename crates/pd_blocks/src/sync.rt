@@ -7,12 +7,13 @@
 ghost use Rattle.std.specs.Prelude.{◌≡◌, ◌≤◌, ◌<◌, ◌+◌, ◌-◌, ◌%◌, ◌^◌, ◌++◌, Ok, min, length, replicate, IfOk, OnOk};
 ghost use Rattle.irt_base.specs.declared.blocks.SyncBlock.{SyncBlock};
 ghost use Rattle.irt_base.specs.Valid.{IsSyncBlock};
-ghost use Rattle.irt_block.specs.Reading.{Gives};
+ghost use Rattle.irt_block.specs.Reading.{Gives, GivesSurely};
 ghost use Rattle.irt_block.specs.Header.{whole_of};
-ghost use Rattle.pd_blocks.specs.Sync.{last_pad, front_bytes, name_bytes, sync_fields_at, sync_in, sync_bytes};
+ghost use Rattle.pd_blocks.specs.Sync.{last_pad, front_bytes, name_bytes, domain_at, sending_at, times_at, role_at, domain_name_at, sync_groups_at, sync_fields_at, sync_in, sync_bytes};
 
 use irt_base::blocks::SyncBlock;
 use irt_base::limits::{MAX_DOMAIN_NAME, MAX_FACTOR, MAX_WINDOW};
+use irt_base::list::Items;
 use irt_base::memory::NoMemory;
 use irt_block::fields::{
     end_of_block, end_of_input, identifier, name, pad, u8_at, u8_within, u16_at, u16_within,
@@ -36,43 +37,147 @@ fn padding(letters: u8) -> usize
     usize::from(3 - letters % 4)
 }
 
-#[tactic(auto, unfolding(crate::specs::Sync::sync_fields_at))]
-fn fields(alloc: Global, extent: Extent, rest: &[u8]) -> Result<(SyncBlock, &[u8]), BlockFault>
+/// How a device sends sync messages.
+#[derive(Clone, Copy)]
+struct Sending {
+    window: u32,
+    send: u32,
+    factor: u16,
+}
+
+/// The times of a sync master.
+#[derive(Clone, Copy)]
+struct Times {
+    timeout: u16,
+    takeover: u16,
+    startup: u16,
+}
+
+/// The part of a device among the masters.
+#[derive(Clone, Copy)]
+struct Role {
+    properties: u16,
+    priority1: u8,
+    priority2: u8,
+}
+
+/// Padding, the subdomain and the reserved interval.
+fn domain_fields(extent: Extent, rest: &[u8]) -> Result<([u8; 16], &[u8]), BlockFault>
     requires inside { length rest.now ≤ extent.end }
     requires fits { extent.end < 2 ^ 32 }
-    ensures gives { Gives (λ x. (x.0, x.1.now)) result (sync_fields_at extent rest.now) }
+    ensures gives { GivesSurely (λ x. (x.0, x.1.now)) result (domain_at extent rest.now) }
     ensures shorter { IfOk result (λ x. length x.1.now ≤ length rest.now) }
 {
     let rest = pad(extent, rest, 2)?;
     let (subdomain, rest) = identifier(extent, rest)?;
     let rest = u32_constant(extent, rest, 0)?;
     let rest = u32_constant(extent, rest, 0)?;
+    Ok((subdomain, rest))
+}
+
+/// PLLWindow, SyncSendFactor and SendClockFactor.
+fn sending_fields(extent: Extent, rest: &[u8]) -> Result<(Sending, &[u8]), BlockFault>
+    requires inside { length rest.now ≤ extent.end }
+    requires fits { extent.end < 2 ^ 32 }
+    ensures gives { GivesSurely (λ x. (x.0, x.1.now)) result (sending_at extent rest.now) }
+    ensures shorter { IfOk result (λ x. length x.1.now ≤ length rest.now) }
+{
     let (window, rest) = u32_within(extent, rest, 0, MAX_WINDOW)?;
     let (send, rest) = u32_at(extent, rest)?;
     let (factor, rest) = u16_within(extent, rest, 1, MAX_FACTOR)?;
-    let (timeout, rest) = u16_at(extent, rest)?;
-    let (takeover, rest) = u16_at(extent, rest)?;
-    let (startup, rest) = u16_at(extent, rest)?;
-    let (properties, rest) = u16_at(extent, rest)?;
-    let (priority1, rest) = u8_at(extent, rest)?;
-    let (priority2, rest) = u8_at(extent, rest)?;
-    let (letters, rest) = u8_within(extent, rest, 1, MAX_DOMAIN_NAME as u8)?;
-    let (name, rest) = name(alloc, extent, rest, usize::from(letters))?;
-    let rest = pad(extent, rest, padding(letters))?;
-    let block = SyncBlock {
-        subdomain,
+    let sending = Sending {
         window,
         send,
         factor,
+    };
+    Ok((sending, rest))
+}
+
+/// PTCPTimeoutFactor, PTCPTakeoverTimeoutFactor and PTCPMasterStartupTime.
+fn times_fields(extent: Extent, rest: &[u8]) -> Result<(Times, &[u8]), BlockFault>
+    requires inside { length rest.now ≤ extent.end }
+    requires fits { extent.end < 2 ^ 32 }
+    ensures gives { GivesSurely (λ x. (x.0, x.1.now)) result (times_at extent rest.now) }
+    ensures shorter { IfOk result (λ x. length x.1.now ≤ length rest.now) }
+{
+    let (timeout, rest) = u16_at(extent, rest)?;
+    let (takeover, rest) = u16_at(extent, rest)?;
+    let (startup, rest) = u16_at(extent, rest)?;
+    let times = Times {
         timeout,
         takeover,
         startup,
+    };
+    Ok((times, rest))
+}
+
+/// SyncProperties and the two priorities.
+fn role_fields(extent: Extent, rest: &[u8]) -> Result<(Role, &[u8]), BlockFault>
+    requires inside { length rest.now ≤ extent.end }
+    requires fits { extent.end < 2 ^ 32 }
+    ensures gives { GivesSurely (λ x. (x.0, x.1.now)) result (role_at extent rest.now) }
+    ensures shorter { IfOk result (λ x. length x.1.now ≤ length rest.now) }
+{
+    let (properties, rest) = u16_at(extent, rest)?;
+    let (priority1, rest) = u8_at(extent, rest)?;
+    let (priority2, rest) = u8_at(extent, rest)?;
+    let role = Role {
         properties,
         priority1,
         priority2,
+    };
+    Ok((role, rest))
+}
+
+/// The name's length, the name and the padding behind it.
+fn domain_name(alloc: Global, extent: Extent, rest: &[u8]) -> Result<(Items<u8>, &[u8]), BlockFault>
+    requires inside { length rest.now ≤ extent.end }
+    requires fits { extent.end < 2 ^ 32 }
+    ensures gives { Gives (λ x. (x.0, x.1.now)) result (domain_name_at extent rest.now) }
+    ensures shorter { IfOk result (λ x. length x.1.now ≤ length rest.now) }
+{
+    let (letters, rest) = u8_within(extent, rest, 1, MAX_DOMAIN_NAME as u8)?;
+    let (name, rest) = name(alloc, extent, rest, usize::from(letters))?;
+    let rest = pad(extent, rest, padding(letters))?;
+    Ok((name, rest))
+}
+
+/// The fields by their groups.
+fn groups(alloc: Global, extent: Extent, rest: &[u8]) -> Result<(SyncBlock, &[u8]), BlockFault>
+    requires inside { length rest.now ≤ extent.end }
+    requires fits { extent.end < 2 ^ 32 }
+    ensures gives { Gives (λ x. (x.0, x.1.now)) result (sync_groups_at extent rest.now) }
+    ensures shorter { IfOk result (λ x. length x.1.now ≤ length rest.now) }
+{
+    let (subdomain, rest) = domain_fields(extent, rest)?;
+    let (sending, rest) = sending_fields(extent, rest)?;
+    let (times, rest) = times_fields(extent, rest)?;
+    let (role, rest) = role_fields(extent, rest)?;
+    let (name, rest) = domain_name(alloc, extent, rest)?;
+    let block = SyncBlock {
+        subdomain,
+        window: sending.window,
+        send: sending.send,
+        factor: sending.factor,
+        timeout: times.timeout,
+        takeover: times.takeover,
+        startup: times.startup,
+        properties: role.properties,
+        priority1: role.priority1,
+        priority2: role.priority2,
         name,
     };
     Ok((block, rest))
+}
+
+/// The fields from left to right.
+fn fields(alloc: Global, extent: Extent, rest: &[u8]) -> Result<(SyncBlock, &[u8]), BlockFault>
+    requires inside { length rest.now ≤ extent.end }
+    requires fits { extent.end < 2 ^ 32 }
+    ensures gives { Gives (λ x. (x.0, x.1.now)) result (sync_fields_at extent rest.now) }
+    ensures shorter { IfOk result (λ x. length x.1.now ≤ length rest.now) }
+{
+    groups(alloc, extent, rest)
 }
 
 /// Reads the block at the front of `rest`, the bytes left of the extent, and gives the bytes after

@@ -13,7 +13,7 @@ use std::alloc::Global;
 use std::marker::Model;
 
 /// The gate of a port. A clause sees the parcels that wait, the Tx period and the limit.
-#[derive(Drop, Debug)]
+#[derive(Drop)]
 pub struct Gate {
     orange: Queue,
     green: Queue,

@@ -13,7 +13,7 @@ use std::marker::Model;
 pub const QUEUE_ROOM: usize = 32;
 
 /// A queue with room for `QUEUE_ROOM` parcels. A clause sees the list of those that wait.
-#[derive(Drop, Debug)]
+#[derive(Drop)]
 pub struct Queue {
     parcels: VecDeque<Parcel>,
 }

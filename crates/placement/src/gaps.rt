@@ -22,7 +22,7 @@ pub const TABLES: usize = MAX_DEVICES * ROW * PHASE_COUNT;
 
 /// Of each link direction the slots of each phase. A clause sees the tables as lists, and `table_at` says which
 /// is which.
-#[derive(Drop, Debug)]
+#[derive(Drop)]
 pub struct Gaps {
     tables: Vec<GapTable>,
 }

@@ -8,7 +8,7 @@ use irt_base::numbers::{DevId, PortNo};
 pub const MAX_TIME: u32 = 0x1000_0000;
 
 /// A frame leaves a device by a port. All times are ns.
-#[derive(Clone, Copy, Debug, PartialEq, Eq)]
+#[derive(Clone, Copy, PartialEq, Eq)]
 pub struct Sending {
     /// The device by whose offset it starts.
     pub anchor: DevId,
@@ -20,14 +20,14 @@ pub struct Sending {
 }
 
 /// When an anchor may start: so many ns after the offset of another one.
-#[derive(Clone, Copy, Debug, PartialEq, Eq)]
+#[derive(Clone, Copy, PartialEq, Eq)]
 pub struct After {
     pub anchor: DevId,
     pub gap: u32,
 }
 
 /// A device that starts a frame by an offset of its own.
-#[derive(Clone, Copy, Debug, PartialEq, Eq)]
+#[derive(Clone, Copy, PartialEq, Eq)]
 pub struct Anchor {
     pub device: DevId,
     /// Nothing at the provider, which may start at 0.
@@ -35,7 +35,7 @@ pub struct Anchor {
 }
 
 /// The way of a frame.
-#[derive(Debug, Drop)]
+#[derive(Drop)]
 pub struct Layout {
     /// How long the frame occupies a link, in ns.
     pub wire: u32,
@@ -45,14 +45,14 @@ pub struct Layout {
 }
 
 /// How often a frame is sent: in each `ratio`-th cycle, in one of `ratio` phases, from 1.
-#[derive(Clone, Copy, Debug, PartialEq, Eq)]
+#[derive(Clone, Copy, PartialEq, Eq)]
 pub struct Rate {
     pub ratio: u16,
     pub phase: u16,
 }
 
 /// The guard between two clocks, and the latest end of a sending, in ns.
-#[derive(Clone, Copy, Debug, PartialEq, Eq)]
+#[derive(Clone, Copy, PartialEq, Eq)]
 pub struct Limits {
     pub guard: u32,
     pub red_max: u32,

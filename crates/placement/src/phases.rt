@@ -11,7 +11,7 @@ use crate::search::{end_of, least_offset};
 use irt_base::limits::MAX_DEVICES;
 
 /// Where a frame is placed.
-#[derive(Clone, Copy, Debug)]
+#[derive(Clone, Copy)]
 pub struct Placing {
     /// From 1.
     pub phase: u16,

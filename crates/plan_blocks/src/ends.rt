@@ -18,7 +18,7 @@ use std::marker::Model;
 
 /// When the last frame ends that passes a port in a phase, in ns, or 0 where there is none. A clause sees the ends as
 /// a list, and `end_at` says which is which.
-#[derive(Drop, Debug)]
+#[derive(Drop)]
 pub struct LastEnds {
     ends: Items<u32>,
 }

@@ -18,7 +18,7 @@ use std::alloc::Global;
 use std::marker::Model;
 
 /// A plan that was accepted: its rules V1..V15 hold everywhere. Only `check` makes one.
-#[derive(Debug, Drop)]
+#[derive(Drop)]
 pub struct Accepted {
     plant: Plant,
     bundles: Items<Bundle>,

@@ -17,7 +17,7 @@ use plan_rules::place::Reject;
 use std::alloc::Global;
 
 /// Whether a plan is accepted.
-#[derive(Debug, Drop)]
+#[derive(Drop)]
 pub enum Verdict {
     /// The rules V1..V15 hold everywhere.
     Accept(Accepted),

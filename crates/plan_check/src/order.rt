@@ -25,7 +25,7 @@ use plan_rules::way::Way;
 use std::alloc::Global;
 
 /// What the rules give.
-#[derive(Debug, Drop)]
+#[derive(Drop)]
 pub enum Outcome {
     /// All hold everywhere, and these are the windows of the frames.
     Holds(Windows),

@@ -14,7 +14,7 @@ use std::sync::Wait;
 use std::thread::Threads;
 
 /// Runs freely: each application turns in a thread of its own, or in the caller's where none can be started.
-#[derive(Debug, Drop)]
+#[derive(Drop)]
 pub struct Free<'a, R> {
     pub rt: &'a R,
 }

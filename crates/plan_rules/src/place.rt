@@ -4,7 +4,7 @@ use irt_base::numbers::DevId;
 
 /// A place of a rule: a device, one of its ports (from 1), a frame and another frame, as the rule names them.
 /// What a rule does not name is 0.
-#[derive(Clone, Copy, Debug, PartialEq, Eq)]
+#[derive(Clone, Copy, PartialEq, Eq)]
 pub struct Place {
     pub device: DevId,
     pub port: u8,
@@ -30,7 +30,7 @@ impl Place {
 }
 
 /// The first rule that fails (1 to 15) and its least place.
-#[derive(Clone, Copy, Debug, PartialEq, Eq)]
+#[derive(Clone, Copy, PartialEq, Eq)]
 pub struct Reject {
     pub rule: u8,
     pub place: Place,

@@ -4,7 +4,7 @@ use irt_base::numbers::{DevId, PortNo};
 
 /// The way of one entry. A device's anchor is the nearest device on the way, itself included, that starts the frame
 /// by a FrameSendOffset. All times are ns in the local cycle of an anchor.
-#[derive(Clone, Copy, Debug, PartialEq, Eq)]
+#[derive(Clone, Copy, PartialEq, Eq)]
 pub struct Way {
     /// Who sends the frame here, and by which port. At the provider the port is 0.
     pub parent: DevId,

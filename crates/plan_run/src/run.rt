@@ -55,7 +55,7 @@ pub trait Runs {
 }
 
 /// Runs in lockstep: after each cycle all applications make one turn, side by side.
-#[derive(Debug, Drop)]
+#[derive(Drop)]
 pub struct Lockstep<'a, R> {
     pub rt: &'a R,
 }

@@ -24,7 +24,7 @@ use plan_rules::way::Way;
 use std::alloc::Global;
 
 /// When a demand's frame is sent, and by when its last receiver has it.
-#[derive(Clone, Copy, Debug, PartialEq, Eq)]
+#[derive(Clone, Copy, PartialEq, Eq)]
 pub struct Schedule {
     pub frame: FrameId,
     /// The frame is sent in every `ratio`-th send cycle.

@@ -19,7 +19,7 @@ use plan_blocks::ends::LastEnds;
 use std::alloc::Global;
 
 /// The frames that are placed, their slots, and the last ends of what is sent and received, in ns.
-#[derive(Debug, Drop)]
+#[derive(Drop)]
 pub struct Placed {
     pub plans: Items<FramePlan>,
     pub gaps: Gaps,

@@ -12,7 +12,7 @@ use std::alloc::Global;
 use std::cmp::Reverse;
 
 /// What decides about a demand's turn: far frames come first, then long ones, then those of lesser FrameIDs.
-#[derive(Clone, Copy, Debug, PartialEq, Eq)]
+#[derive(Clone, Copy, PartialEq, Eq)]
 pub struct Turn {
     /// The links of the walk to the farthest consumer.
     pub hops: u32,
@@ -24,7 +24,7 @@ pub struct Turn {
 }
 
 /// A turn's key. The lesser key has its turn first.
-#[derive(Clone, Copy, Debug, PartialEq, Eq, PartialOrd, Ord)]
+#[derive(Clone, Copy, PartialEq, Eq, PartialOrd, Ord)]
 pub struct TurnKey {
     pub far: Reverse<u32>,
     pub long: Reverse<u16>,

@@ -1,5 +1,7 @@
-//! Plants that are printed and read back.
+//! Plants by seed, and plants that are printed and read back.
 #![tactic(auto)]
 
+#[cfg(test)]
+mod seeds;
 #[cfg(test)]
 mod tests;

@@ -1,5 +1,10 @@
 //! Plants read, printed and read back.
 
+ghost use Rattle.std.specs.Prelude.{◌≤◌};
+ghost use Rattle.irt_base.specs.Valid.{IsWithin};
+ghost use Rattle.irt_base.specs.declared.limits.TheConstants.{MAX_DEMANDS, MAX_DEVICES};
+
+use irt_base::memory::NoMemory;
 use irt_topo::read::read_plant;
 use plant_gen::gen_plant;
 use plant_print::print::print_plant;
@@ -94,40 +99,50 @@ stamp = 8
 loss = 0
 "#;
 
+/// What is printed of the plant of a file, where there is one.
+fn reprinted(alloc: Global, text: &[u8]) -> Option<Vec<u8>> {
+    let plant = read_plant(alloc, text).ok()?;
+    print_plant(alloc, &plant).ok()
+}
+
 /// Whether a text is a plant's file, and so is what is printed of the plant, which prints the same again.
 fn comes_back(alloc: Global, text: &[u8]) -> bool {
-    let Ok(plant) = read_plant(alloc, text) else {
-        return false;
-    };
-    let Ok(printed) = print_plant(alloc, &plant) else {
-        return false;
-    };
-    let Ok(again) = read_plant(alloc, printed.as_slice()) else {
-        return false;
-    };
-    match print_plant(alloc, &again) {
-        Ok(second) => second.as_slice() == printed.as_slice(),
-        Err(_) => false,
+    match reprinted(alloc, text) {
+        None => false,
+        Some(printed) => is_reprinted(alloc, printed.as_slice()),
+    }
+}
+
+/// Whether a text is what is printed of its plant.
+fn is_reprinted(alloc: Global, text: &[u8]) -> bool {
+    match reprinted(alloc, text) {
+        None => false,
+        Some(printed) => printed.as_slice() == text,
     }
 }
 
 #[test]
-fn worked_plants_come_back(rt: HostRuntime) -> Result<(), Fail> {
-    let alloc = rt.alloc();
-    assert!(rt; comes_back(alloc, PAIR.as_bytes()));
-    assert!(rt; comes_back(alloc, LINE.as_bytes()));
-    assert!(rt; comes_back(alloc, DRIVES.as_bytes()));
-    Ok(())
+fn worked_plants_come_back(rt: HostRuntime) {
+    assert!(rt; comes_back(rt.alloc(), PAIR.as_bytes()));
+    assert!(rt; comes_back(rt.alloc(), LINE.as_bytes()));
+    assert!(rt; comes_back(rt.alloc(), DRIVES.as_bytes()));
+}
+
+/// What is printed of a generated plant.
+fn generated(alloc: Global, seed: u64, devices: u16, frames: u16) -> Result<Vec<u8>, NoMemory>
+    requires devices { IsWithin 2 MAX_DEVICES devices }
+    requires frames { frames ≤ MAX_DEMANDS }
+{
+    let plant = gen_plant(alloc, seed, devices, frames)?;
+    print_plant(alloc, &plant)
 }
 
 #[test]
 fn generated_plants_come_back(rt: HostRuntime) -> Result<(), Fail> {
-    let alloc = rt.alloc();
     for (seed, devices, frames) in [(0, 2, 0), (7, 2, 1), (u64::MAX, 5, 16), (7, 64, 512)] {
-        let plant = gen_plant(alloc, seed, devices, frames)?;
-        let printed = print_plant(alloc, &plant)?;
+        let printed = generated(rt.alloc(), seed, devices, frames)?;
         assert!(rt;
-            comes_back(alloc, printed.as_slice()),
+            comes_back(rt.alloc(), printed.as_slice()),
             "{seed} {devices} {frames}"
         );
     }

@@ -58,43 +58,61 @@ list_data f xs = array (items_of (map f xs))
 abbrev pub port_data : PortDelay → Data
 port_data p = list_data number_data (p.tx ∷ p.rx ∷ [])
 
-abbrev pub sync_data : SyncPlan → Data
-sync_data s =
-    table (with_member (codes "loss") (number_data s.loss) (with_member (codes "stamp") (number_data s.stamp)
+abbrev pub with_sync : SyncPlan → Members → Members
+with_sync s members =
+    with_member (codes "loss") (number_data s.loss) (with_member (codes "stamp") (number_data s.stamp)
     (with_member (codes "drift") (number_data s.drift) (with_member (codes "timeout") (number_data s.timeout)
-    (with_member (codes "send") (number_data s.send) no_members)))))
+    (with_member (codes "send") (number_data s.send) members))))
+
+abbrev pub sync_data : SyncPlan → Data
+sync_data s = table (with_sync s no_members)
+
+abbrev pub with_device : Device → Members → Members
+with_device d members =
+    with_member (codes "ports") (list_data port_data d.ports) (with_member (codes "bmax") (number_data d.bmax)
+    (with_member (codes "bmin") (number_data d.bmin) (with_member (codes "mode") (string (mode_text d.mode))
+    (with_member (codes "name") (string d.name) members))))
 
 abbrev pub device_data : Device → Data
-device_data d =
-    table (with_member (codes "ports") (list_data port_data d.ports) (with_member (codes "bmax") (number_data d.bmax)
-    (with_member (codes "bmin") (number_data d.bmin) (with_member (codes "mode") (string (mode_text d.mode))
-    (with_member (codes "name") (string d.name) no_members)))))
+device_data d = table (with_device d no_members)
+
+abbrev pub with_link : List Device → Link → Members → Members
+with_link devices l members =
+    with_member (codes "delay") (number_data l.delay) (with_member (codes "to_port") (number_data l.b_port.0)
+    (with_member (codes "to") (string (name_at devices l.b)) (with_member (codes "from_port") (number_data l.a_port.0)
+    (with_member (codes "from") (string (name_at devices l.a)) members))))
 
 abbrev pub link_data : List Device → Link → Data
-link_data devices l =
-    table (with_member (codes "delay") (number_data l.delay) (with_member (codes "to_port") (number_data l.b_port.0)
-    (with_member (codes "to") (string (name_at devices l.b)) (with_member (codes "from_port") (number_data l.a_port.0)
-    (with_member (codes "from") (string (name_at devices l.a)) no_members)))))
+link_data devices l = table (with_link devices l no_members)
 
 abbrev pub name_data : List Device → DevId → Data
 name_data devices device = string (name_at devices device)
 
-abbrev pub demand_data : List Device → Demand → Data
-demand_data devices d =
-    table (with_member (codes "update") (number_data d.update) (with_member (codes "length") (number_data d.length)
+abbrev pub with_demand : List Device → Demand → Members → Members
+with_demand devices d members =
+    with_member (codes "update") (number_data d.update) (with_member (codes "length") (number_data d.length)
     (with_member (codes "to") (list_data (name_data devices) d.consumers)
-    (with_member (codes "from") (name_data devices d.provider) (with_member (codes "frame") (number_data d.frame.0) no_members)))))
+    (with_member (codes "from") (name_data devices d.provider) (with_member (codes "frame") (number_data d.frame.0) members))))
+
+abbrev pub demand_data : List Device → Demand → Data
+demand_data devices d = table (with_demand devices d no_members)
+
+abbrev pub with_traffic : List Device → Traffic → Members → Members
+with_traffic devices t members =
+    with_member (codes "count") (number_data t.count) (with_member (codes "every") (number_data t.every)
+    (with_member (codes "length") (number_data t.length) (with_member (codes "class") (string (class_text t.class))
+    (with_member (codes "to") (name_data devices t.target) (with_member (codes "from") (name_data devices t.source) members)))))
 
 abbrev pub traffic_data : List Device → Traffic → Data
-traffic_data devices t =
-    table (with_member (codes "count") (number_data t.count) (with_member (codes "every") (number_data t.every)
-    (with_member (codes "length") (number_data t.length) (with_member (codes "class") (string (class_text t.class))
-    (with_member (codes "to") (name_data devices t.target) (with_member (codes "from") (name_data devices t.source) no_members))))))
+traffic_data devices t = table (with_traffic devices t no_members)
+
+abbrev pub with_app : List Device → App → Members → Members
+with_app devices a members =
+    with_member (codes "param") (number_data a.param) (with_member (codes "kind") (string (app_text a.kind))
+    (with_member (codes "device") (name_data devices a.device) members))
 
 abbrev pub app_data : List Device → App → Data
-app_data devices a =
-    table (with_member (codes "param") (number_data a.param) (with_member (codes "kind") (string (app_text a.kind))
-    (with_member (codes "device") (name_data devices a.device) no_members)))
+app_data devices a = table (with_app devices a no_members)
 
 -- the keys of the whole plant
 abbrev pub with_settings : Plant → Members → Members

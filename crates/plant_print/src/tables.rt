@@ -4,7 +4,7 @@ ghost use Rattle.std.specs.Prelude.{◌≡◌, ◌<◌, ◌^◌, IfOk, OnOk};
 ghost use Rattle.std.specs.List.{AllByRecursion};
 ghost use Rattle.toml.specs.View.{view, table_view};
 ghost use Rattle.plant_rules.specs.Meets.{IsName, MeetsRules};
-ghost use Rattle.plant_print.specs.Written.{port_data, sync_data, device_data, link_data, name_data, demand_data, traffic_data, app_data, list_data};
+ghost use Rattle.plant_print.specs.Written.{with_member, with_sync, with_device, with_link, with_demand, with_traffic, with_app, port_data, sync_data, device_data, link_data, name_data, demand_data, traffic_data, app_data, list_data};
 
 use crate::build::{name_value, number_value, put, put_name, put_number, put_text};
 use crate::names::{app_text, class_text, mode_text};
@@ -20,12 +20,19 @@ pub fn sync_value(alloc: Global, sync: SyncPlan) -> Result<Value, NoMemory>
     ensures { IfOk result (λ v. view v ≡ sync_data sync) }
 {
     let mut table = Table::new(alloc);
-    put_number(alloc, &mut table, "send", sync.send)?;
-    put_number(alloc, &mut table, "timeout", u32::from(sync.timeout))?;
-    put_number(alloc, &mut table, "drift", sync.drift)?;
-    put_number(alloc, &mut table, "stamp", sync.stamp)?;
-    put_number(alloc, &mut table, "loss", sync.loss)?;
+    put_sync(alloc, &mut table, sync)?;
     Ok(Value::Table(table))
+}
+
+/// Adds the keys of a `sync` table.
+fn put_sync(alloc: Global, table: &mut Table, sync: SyncPlan) -> Result<(), NoMemory>
+    ensures { OnOk result (table_view table.new ≡ with_sync sync (table_view table.old)) }
+{
+    put_number(alloc, table, "send", sync.send)?;
+    put_number(alloc, table, "timeout", u32::from(sync.timeout))?;
+    put_number(alloc, table, "drift", sync.drift)?;
+    put_number(alloc, table, "stamp", sync.stamp)?;
+    put_number(alloc, table, "loss", sync.loss)
 }
 
 /// An entry of `ports`.
@@ -54,13 +61,21 @@ fn device_value(alloc: Global, device: &Device) -> Result<Value, NoMemory>
     ensures { IfOk result (λ v. view v ≡ device_data device.now) }
 {
     let mut table = Table::new(alloc);
-    put_name(alloc, &mut table, "name", device.name.as_slice())?;
-    put_text(alloc, &mut table, "mode", mode_text(device.mode))?;
-    put_number(alloc, &mut table, "bmin", device.bmin)?;
-    put_number(alloc, &mut table, "bmax", device.bmax)?;
-    let ports = ports_value(alloc, device.ports.as_slice())?;
-    put(alloc, &mut table, "ports", ports)?;
+    put_device(alloc, &mut table, device)?;
     Ok(Value::Table(table))
+}
+
+/// Adds the keys of a `device` table.
+fn put_device(alloc: Global, table: &mut Table, device: &Device) -> Result<(), NoMemory>
+    requires { IsName device.now.name }
+    ensures { OnOk result (table_view table.new ≡ with_device device.now (table_view table.old)) }
+{
+    put_name(alloc, table, "name", device.name.as_slice())?;
+    put_text(alloc, table, "mode", mode_text(device.mode))?;
+    put_number(alloc, table, "bmin", device.bmin)?;
+    put_number(alloc, table, "bmax", device.bmax)?;
+    let ports = ports_value(alloc, device.ports.as_slice())?;
+    put(alloc, table, "ports", ports)
 }
 
 /// The `device` tables.
@@ -86,20 +101,42 @@ fn name_of(alloc: Global, plant: &Plant, device: DevId) -> Result<Value, NoMemor
     }
 }
 
+/// Adds a key with the name of a device.
+fn put_name_of(
+    alloc: Global,
+    table: &mut Table,
+    key: &str,
+    plant: &Plant,
+    device: DevId,
+) -> Result<(), NoMemory>
+    requires { MeetsRules plant.now }
+    ensures { OnOk result
+        (table_view table.new ≡ with_member key.now (name_data plant.now.devices device) (table_view table.old)) }
+{
+    let name = name_of(alloc, plant, device)?;
+    put(alloc, table, key, name)
+}
+
 /// A `link` table.
 fn link_value(alloc: Global, plant: &Plant, link: Link) -> Result<Value, NoMemory>
     requires { MeetsRules plant.now }
     ensures { IfOk result (λ v. view v ≡ link_data plant.now.devices link) }
 {
     let mut table = Table::new(alloc);
-    let from = name_of(alloc, plant, link.a)?;
-    put(alloc, &mut table, "from", from)?;
-    put_number(alloc, &mut table, "from_port", u32::from(link.a_port.0))?;
-    let to = name_of(alloc, plant, link.b)?;
-    put(alloc, &mut table, "to", to)?;
-    put_number(alloc, &mut table, "to_port", u32::from(link.b_port.0))?;
-    put_number(alloc, &mut table, "delay", link.delay)?;
+    put_link(alloc, &mut table, plant, link)?;
     Ok(Value::Table(table))
+}
+
+/// Adds the keys of a `link` table.
+fn put_link(alloc: Global, table: &mut Table, plant: &Plant, link: Link) -> Result<(), NoMemory>
+    requires { MeetsRules plant.now }
+    ensures { OnOk result (table_view table.new ≡ with_link plant.now.devices link (table_view table.old)) }
+{
+    put_name_of(alloc, table, "from", plant, link.a)?;
+    put_number(alloc, table, "from_port", u32::from(link.a_port.0))?;
+    put_name_of(alloc, table, "to", plant, link.b)?;
+    put_number(alloc, table, "to_port", u32::from(link.b_port.0))?;
+    put_number(alloc, table, "delay", link.delay)
 }
 
 /// The `link` tables.
@@ -131,16 +168,30 @@ fn demand_value(alloc: Global, plant: &Plant, demand: &Demand) -> Result<Value, 
     ensures value { IfOk result (λ v. view v ≡ demand_data plant.now.devices demand.now) }
     ensures small { OnOk result (demand.now.update < 2 ^ 32) }
 {
-    let update: u32 = demand.update;
     let mut table = Table::new(alloc);
-    put_number(alloc, &mut table, "frame", u32::from(demand.frame.0))?;
-    let from = name_of(alloc, plant, demand.provider)?;
-    put(alloc, &mut table, "from", from)?;
-    let to = names_value(alloc, plant, demand.consumers.as_slice())?;
-    put(alloc, &mut table, "to", to)?;
-    put_number(alloc, &mut table, "length", u32::from(demand.length))?;
-    put_number(alloc, &mut table, "update", update)?;
+    put_demand(alloc, &mut table, plant, demand)?;
     Ok(Value::Table(table))
+}
+
+/// Adds the keys of a `demand` table.
+fn put_demand(
+    alloc: Global,
+    table: &mut Table,
+    plant: &Plant,
+    demand: &Demand,
+) -> Result<(), NoMemory>
+    requires { MeetsRules plant.now }
+    ensures table { OnOk result
+        (table_view table.new ≡ with_demand plant.now.devices demand.now (table_view table.old)) }
+    ensures small { OnOk result (demand.now.update < 2 ^ 32) }
+{
+    let update: u32 = demand.update;
+    put_number(alloc, table, "frame", u32::from(demand.frame.0))?;
+    put_name_of(alloc, table, "from", plant, demand.provider)?;
+    let to = names_value(alloc, plant, demand.consumers.as_slice())?;
+    put(alloc, table, "to", to)?;
+    put_number(alloc, table, "length", u32::from(demand.length))?;
+    put_number(alloc, table, "update", update)
 }
 
 /// The `demand` tables.
@@ -162,15 +213,26 @@ fn traffic_value(alloc: Global, plant: &Plant, entry: Traffic) -> Result<Value, 
     ensures { IfOk result (λ v. view v ≡ traffic_data plant.now.devices entry) }
 {
     let mut table = Table::new(alloc);
-    let from = name_of(alloc, plant, entry.source)?;
-    put(alloc, &mut table, "from", from)?;
-    let to = name_of(alloc, plant, entry.target)?;
-    put(alloc, &mut table, "to", to)?;
-    put_text(alloc, &mut table, "class", class_text(entry.class))?;
-    put_number(alloc, &mut table, "length", u32::from(entry.length))?;
-    put_number(alloc, &mut table, "every", entry.every)?;
-    put_number(alloc, &mut table, "count", u32::from(entry.count))?;
+    put_traffic(alloc, &mut table, plant, entry)?;
     Ok(Value::Table(table))
+}
+
+/// Adds the keys of a `traffic` table.
+fn put_traffic(
+    alloc: Global,
+    table: &mut Table,
+    plant: &Plant,
+    entry: Traffic,
+) -> Result<(), NoMemory>
+    requires { MeetsRules plant.now }
+    ensures { OnOk result (table_view table.new ≡ with_traffic plant.now.devices entry (table_view table.old)) }
+{
+    put_name_of(alloc, table, "from", plant, entry.source)?;
+    put_name_of(alloc, table, "to", plant, entry.target)?;
+    put_text(alloc, table, "class", class_text(entry.class))?;
+    put_number(alloc, table, "length", u32::from(entry.length))?;
+    put_number(alloc, table, "every", entry.every)?;
+    put_number(alloc, table, "count", u32::from(entry.count))
 }
 
 /// The `traffic` tables.
@@ -192,11 +254,18 @@ fn app_value(alloc: Global, plant: &Plant, app: App) -> Result<Value, NoMemory>
     ensures small { OnOk result (app.param < 2 ^ 32) }
 {
     let mut table = Table::new(alloc);
-    let device = name_of(alloc, plant, app.device)?;
-    put(alloc, &mut table, "device", device)?;
-    put_text(alloc, &mut table, "kind", app_text(app.kind))?;
-    put_number(alloc, &mut table, "param", app.param)?;
+    put_app(alloc, &mut table, plant, app)?;
     Ok(Value::Table(table))
+}
+
+/// Adds the keys of an `app` table.
+fn put_app(alloc: Global, table: &mut Table, plant: &Plant, app: App) -> Result<(), NoMemory>
+    requires { MeetsRules plant.now }
+    ensures { OnOk result (table_view table.new ≡ with_app plant.now.devices app (table_view table.old)) }
+{
+    put_name_of(alloc, table, "device", plant, app.device)?;
+    put_text(alloc, table, "kind", app_text(app.kind))?;
+    put_number(alloc, table, "param", app.param)
 }
 
 /// The `app` tables.

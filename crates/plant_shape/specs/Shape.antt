@@ -23,6 +23,7 @@ use Rattle.plant_shape.specs.declared.raw.RawDemand.{RawDemand}
 use Rattle.plant_shape.specs.declared.raw.RawTraffic.{RawTraffic}
 use Rattle.plant_shape.specs.declared.raw.RawApp.{RawApp}
 use Rattle.plant_shape.specs.declared.raw.RawPlant.{RawPlant}
+use Rattle.plant_shape.specs.declared.shape.Terms.{Terms}
 use Rattle.plant_shape.specs.declared.raw.TheConstants.{DEFAULT_SEND, DEFAULT_TIMEOUT}
 
 infixl 10 ◌>>=◌
@@ -35,6 +36,13 @@ Gives (Ok x) read = read ≡ Some x
 Gives (Err faults.NoMemory) read = ⊤
 Gives (Err faults.NotToml) read = ⊥
 Gives (Err faults.Shape) read = read ≡ None
+
+-- likewise, through a view of the answer
+abbrev pub Reads : {A B : Type 0} → (A → B) → Result A ShapeFault → Option B → Type 0
+Reads view (Ok x) read = read ≡ Some (view x)
+Reads view (Err faults.NoMemory) read = ⊤
+Reads view (Err faults.NotToml) read = ⊥
+Reads view (Err faults.Shape) read = read ≡ None
 
 -- a number of 0..4294967295
 abbrev pub word_of : ℤ → Option ℕ
@@ -113,85 +121,164 @@ texts_of d = option_and_then (each_item as_str) (as_array d)
 abbrev pub default_sync : RawSync
 default_sync = record { send = DEFAULT_SEND; timeout = DEFAULT_TIMEOUT; drift = 0; stamp = 0; loss = 0 }
 
-unfoldable pub sync_of : Data → Option RawSync
-sync_of d = do
-  ms ← known_table kinds.Sync d
-  send ← optional_number DEFAULT_SEND (codes "send") ms
-  timeout ← optional_number DEFAULT_TIMEOUT (codes "timeout") ms
+-- a table's synchronization after `send` and `timeout`
+abbrev pub sync_sent : ℕ → ℕ → Members → Option RawSync
+sync_sent send timeout ms = do
   drift ← optional_number 0 (codes "drift") ms
   stamp ← optional_number 0 (codes "stamp") ms
   loss ← optional_number 0 (codes "loss") ms
   Some (record { send = send; timeout = timeout; drift = drift; stamp = stamp; loss = loss })
 
+abbrev pub sync_at : Members → Option RawSync
+sync_at ms = do
+  send ← optional_number DEFAULT_SEND (codes "send") ms
+  timeout ← optional_number DEFAULT_TIMEOUT (codes "timeout") ms
+  sync_sent send timeout ms
+
+unfoldable pub sync_of : Data → Option RawSync
+sync_of d = known_table kinds.Sync d >>= sync_at
+
 abbrev pub sync_or_default : Option Data → Option RawSync
 sync_or_default None = Some default_sync
 sync_or_default (Some d) = sync_of d
 
-unfoldable pub device_of : Data → Option RawDevice
-device_of d = do
-  ms ← known_table kinds.Device d
-  name ← text (codes "name") ms
-  mode ← text (codes "mode") ms >>= mode_of
+-- the way of forwarding at `mode`, and the numbers of each port at `ports`
+abbrev pub mode_at : Members → Option Mode
+mode_at ms = text (codes "mode") ms >>= mode_of
+
+abbrev pub ports_at : Members → Option (List (List ℕ))
+ports_at ms = array_at (codes "ports") ms >>= each_item numbers_of
+
+-- a table's device after `name` and `mode`
+abbrev pub device_named : List ℕ → Mode → Members → Option RawDevice
+device_named name mode ms = do
   bmin ← number (codes "bmin") ms
   bmax ← number (codes "bmax") ms
-  ports ← array_at (codes "ports") ms >>= each_item numbers_of
+  ports ← ports_at ms
   Some (record { name = name; mode = mode; bmin = bmin; bmax = bmax; ports = ports })
 
-unfoldable pub link_of : Data → Option RawLink
-link_of d = do
-  ms ← known_table kinds.Link d
-  from ← text (codes "from") ms
-  from_port ← number (codes "from_port") ms
-  to ← text (codes "to") ms
+abbrev pub device_at : Members → Option RawDevice
+device_at ms = do
+  name ← text (codes "name") ms
+  mode ← mode_at ms
+  device_named name mode ms
+
+unfoldable pub device_of : Data → Option RawDevice
+device_of d = known_table kinds.Device d >>= device_at
+
+-- a table's link after `from`, `from_port` and `to`
+abbrev pub link_between : List ℕ → ℕ → List ℕ → Members → Option RawLink
+link_between from from_port to ms = do
   to_port ← number (codes "to_port") ms
   delay ← number (codes "delay") ms
   Some (record { from = from; from_port = from_port; to = to; to_port = to_port; delay = delay })
 
-unfoldable pub demand_of : Data → Option RawDemand
-demand_of d = do
-  ms ← known_table kinds.Demand d
-  frame ← number (codes "frame") ms
+abbrev pub link_at : Members → Option RawLink
+link_at ms = do
   from ← text (codes "from") ms
-  to ← option_and_then texts_of (get_member (codes "to") ms)
+  from_port ← number (codes "from_port") ms
+  to ← text (codes "to") ms
+  link_between from from_port to ms
+
+unfoldable pub link_of : Data → Option RawLink
+link_of d = known_table kinds.Link d >>= link_at
+
+-- the names at `to`
+abbrev pub consumers_at : Members → Option (List (List ℕ))
+consumers_at ms = option_and_then texts_of (get_member (codes "to") ms)
+
+-- a table's demand after `frame`, `from` and `to`
+abbrev pub demand_between : ℕ → List ℕ → List (List ℕ) → Members → Option RawDemand
+demand_between frame from to ms = do
   length ← number (codes "length") ms
   update ← number (codes "update") ms
   Some (record { frame = frame; from = from; to = to; length = length; update = update })
 
-unfoldable pub traffic_of : Data → Option RawTraffic
-traffic_of d = do
-  ms ← known_table kinds.Traffic d
+abbrev pub demand_at : Members → Option RawDemand
+demand_at ms = do
+  frame ← number (codes "frame") ms
   from ← text (codes "from") ms
-  to ← text (codes "to") ms
-  class ← text (codes "class") ms >>= class_of
+  to ← consumers_at ms
+  demand_between frame from to ms
+
+unfoldable pub demand_of : Data → Option RawDemand
+demand_of d = known_table kinds.Demand d >>= demand_at
+
+-- the class at `class`
+abbrev pub class_at : Members → Option Class
+class_at ms = text (codes "class") ms >>= class_of
+
+-- a table's traffic after `from`, `to` and `class`
+abbrev pub traffic_between : List ℕ → List ℕ → Class → Members → Option RawTraffic
+traffic_between from to class ms = do
   length ← number (codes "length") ms
   every ← number (codes "every") ms
   count ← number (codes "count") ms
   Some (record { from = from; to = to; class = class; length = length; every = every; count = count })
 
-unfoldable pub app_of : Data → Option RawApp
-app_of d = do
-  ms ← known_table kinds.App d
+abbrev pub traffic_at : Members → Option RawTraffic
+traffic_at ms = do
+  from ← text (codes "from") ms
+  to ← text (codes "to") ms
+  class ← class_at ms
+  traffic_between from to class ms
+
+unfoldable pub traffic_of : Data → Option RawTraffic
+traffic_of d = known_table kinds.Traffic d >>= traffic_at
+
+-- the application's name at `kind`
+abbrev pub app_name_at : Members → Option AppName
+app_name_at ms = text (codes "kind") ms >>= app_name_of
+
+abbrev pub app_at : Members → Option RawApp
+app_at ms = do
   device ← text (codes "device") ms
-  kind ← text (codes "kind") ms >>= app_name_of
+  kind ← app_name_at ms
   param ← optional_number 0 (codes "param") ms
   Some (record { device = device; kind = kind; param = param })
+
+unfoldable pub app_of : Data → Option RawApp
+app_of d = known_table kinds.App d >>= app_at
+
+-- whose clocks are at `clocks`
+abbrev pub clocks_at : Members → Option Clocks
+clocks_at ms = text (codes "clocks") ms >>= clocks_of
+
+-- what a table says of a plant besides its lists
+abbrev pub terms_timed : ℕ → ℕ → ℕ → Members → Option Terms
+terms_timed factor window red_max ms = do
+  orange ← number (codes "orange") ms
+  clocks ← clocks_at ms
+  sync ← sync_or_default (get_member (codes "sync") ms)
+  Some (record { factor = factor; window = window; red_max = red_max; orange = orange; clocks = clocks; sync = sync })
+
+abbrev pub terms_at : Members → Option Terms
+terms_at ms = do
+  factor ← number (codes "factor") ms
+  window ← number (codes "window") ms
+  red_max ← number (codes "red_max") ms
+  terms_timed factor window red_max ms
+
+-- a table's plant after its terms, and after its first lists
+abbrev pub plant_wired : Terms → List RawDevice → List RawLink → List RawDemand → Members → Option RawPlant
+plant_wired terms devices links demands ms = do
+  traffic ← optional_array (codes "traffic") ms >>= each_item traffic_of
+  apps ← optional_array (codes "app") ms >>= each_item app_of
+  Some (record { factor = terms.factor; window = terms.window; red_max = terms.red_max; orange = terms.orange; clocks = terms.clocks; sync = terms.sync; devices = devices; links = links; demands = demands; traffic = traffic; apps = apps })
+
+abbrev pub plant_at : Terms → Members → Option RawPlant
+plant_at terms ms = do
+  devices ← optional_array (codes "device") ms >>= each_item device_of
+  links ← optional_array (codes "link") ms >>= each_item link_of
+  demands ← optional_array (codes "demand") ms >>= each_item demand_of
+  plant_wired terms devices links demands ms
 
 -- the plant of a document's table
 unfoldable pub raw_plant : Members → Option RawPlant
 raw_plant document = do
   ms ← known_members kinds.Top document
-  factor ← number (codes "factor") ms
-  window ← number (codes "window") ms
-  red_max ← number (codes "red_max") ms
-  orange ← number (codes "orange") ms
-  clocks ← text (codes "clocks") ms >>= clocks_of
-  sync ← sync_or_default (get_member (codes "sync") ms)
-  devices ← optional_array (codes "device") ms >>= each_item device_of
-  links ← optional_array (codes "link") ms >>= each_item link_of
-  demands ← optional_array (codes "demand") ms >>= each_item demand_of
-  traffic ← optional_array (codes "traffic") ms >>= each_item traffic_of
-  apps ← optional_array (codes "app") ms >>= each_item app_of
-  Some (record { factor = factor; window = window; red_max = red_max; orange = orange; clocks = clocks; sync = sync; devices = devices; links = links; demands = demands; traffic = traffic; apps = apps })
+  terms ← terms_at ms
+  plant_at terms ms
 
 -- the table of a document
 abbrev pub document_of : List ℕ → Option Members

@@ -7,7 +7,7 @@ ghost use Rattle.plant_shape.specs.Keys.{is_key, all_known};
 use toml::Table;
 
 /// The tables of a plant file.
-#[derive(Clone, Copy, Debug, PartialEq, Eq)]
+#[derive(Clone, Copy, PartialEq, Eq)]
 pub enum TableKind {
     Top,
     Sync,

@@ -20,6 +20,19 @@ pub fn copy_text(alloc: Global, text: &str) -> Result<Items<u8>, ShapeFault>
     Ok(Items::from_vec(bytes))
 }
 
+/// Copies of two texts.
+pub fn copy_texts(
+    alloc: Global,
+    first: &str,
+    second: &str,
+) -> Result<(Items<u8>, Items<u8>), ShapeFault>
+    ensures { Gives result (Some (first.now, second.now)) }
+{
+    let first = copy_text(alloc, first)?;
+    let second = copy_text(alloc, second)?;
+    Ok((first, second))
+}
+
 /// A value as a text.
 pub fn text_in(alloc: Global, value: &Value) -> Result<Items<u8>, ShapeFault>
     ensures { Gives result (as_str (view value.now)) }

@@ -3,7 +3,7 @@
 ghost use Rattle.std.specs.Prelude.{◌≡◌, option_map, option_copied, option_and_then};
 ghost use Rattle.toml.specs.Data.{get_member, as_str};
 ghost use Rattle.toml.specs.View.{view, table_view, array_view};
-ghost use Rattle.plant_shape.specs.Shape.{Gives, number_of, number, optional_number, text, array_at, optional_array, known_members, known_table};
+ghost use Rattle.plant_shape.specs.Shape.{Gives, Reads, number_of, number, optional_number, text, array_at, optional_array, known_members, known_table};
 
 use crate::fault::ShapeFault;
 use crate::keys::{TableKind, all_known};
@@ -54,6 +54,16 @@ pub fn text<'a>(table: &'a Table, key: &str) -> Option<&'a str>
     match find(table, key) {
         Some(value) => value.as_str(),
         None => None,
+    }
+}
+
+/// The text at a key that has to be there.
+pub fn text_at<'a>(table: &'a Table, key: &str) -> Result<&'a str, ShapeFault>
+    ensures { Reads (λ t. t.now) result (text key.now (table_view table.now)) }
+{
+    match text(table, key) {
+        Some(found) => Ok(found),
+        None => Err(ShapeFault::Shape),
     }
 }
 

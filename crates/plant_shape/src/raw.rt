@@ -5,7 +5,7 @@ use irt_base::list::Items;
 use irt_base::plants::{AppName, Class, Clocks, Mode};
 
 /// The `sync` table.
-#[derive(Clone, Copy, Debug, PartialEq, Eq)]
+#[derive(Clone, Copy, PartialEq, Eq)]
 pub struct RawSync {
     pub send: u32,
     pub timeout: u32,
@@ -15,7 +15,7 @@ pub struct RawSync {
 }
 
 /// A `device` table. An entry of `ports` has the numbers of its array, however many.
-#[derive(Debug, Drop)]
+#[derive(Drop)]
 pub struct RawDevice {
     pub name: Items<u8>,
     pub mode: Mode,
@@ -25,7 +25,7 @@ pub struct RawDevice {
 }
 
 /// A `link` table.
-#[derive(Debug, Drop)]
+#[derive(Drop)]
 pub struct RawLink {
     pub from: Items<u8>,
     pub from_port: u32,
@@ -35,7 +35,7 @@ pub struct RawLink {
 }
 
 /// A `demand` table.
-#[derive(Debug, Drop)]
+#[derive(Drop)]
 pub struct RawDemand {
     pub frame: u32,
     pub from: Items<u8>,
@@ -45,7 +45,7 @@ pub struct RawDemand {
 }
 
 /// A `traffic` table.
-#[derive(Debug, Drop)]
+#[derive(Drop)]
 pub struct RawTraffic {
     pub from: Items<u8>,
     pub to: Items<u8>,
@@ -56,7 +56,7 @@ pub struct RawTraffic {
 }
 
 /// An `app` table.
-#[derive(Debug, Drop)]
+#[derive(Drop)]
 pub struct RawApp {
     pub device: Items<u8>,
     pub kind: AppName,
@@ -64,7 +64,7 @@ pub struct RawApp {
 }
 
 /// A whole plant file.
-#[derive(Debug, Drop)]
+#[derive(Drop)]
 pub struct RawPlant {
     pub factor: u32,
     pub window: u32,

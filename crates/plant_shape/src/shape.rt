@@ -3,18 +3,19 @@
 ghost use Rattle.std.specs.Prelude.{◌≡◌, codes, option_and_then};
 ghost use Rattle.toml.specs.Data.{get_member};
 ghost use Rattle.toml.specs.View.{array_view, table_view};
-ghost use Rattle.plant_shape.specs.Shape.{Gives, IsShapeAnswer, sync_or_default, optional_array, each_item, device_of, link_of, demand_of, traffic_of, app_of, raw_plant, shape_of};
+ghost use Rattle.plant_shape.specs.Shape.{Gives, IsShapeAnswer, sync_or_default, optional_array, each_item, device_of, link_of, demand_of, traffic_of, app_of, terms_at, terms_timed, clocks_at, plant_at, plant_wired, raw_plant, shape_of};
 
 use crate::choices::clocks_of;
 use crate::fault::ShapeFault;
 use crate::keys::{TableKind, all_known};
-use crate::look::{find, number, text};
+use crate::look::{find, number, text_at};
 use crate::raw::{
     DEFAULT_SEND, DEFAULT_TIMEOUT, RawApp, RawDemand, RawDevice, RawLink, RawPlant, RawSync,
     RawTraffic,
 };
 use crate::tables::{app_in, demand_in, device_in, link_in, sync_in, traffic_in};
 use irt_base::list::Items;
+use irt_base::plants::Clocks;
 use std::alloc::Global;
 use toml::Table;
 use toml::value::Array;
@@ -43,25 +44,88 @@ fn plant_in(alloc: Global, table: &Table) -> Result<RawPlant, ShapeFault>
     if !all_known(TableKind::Top, table) {
         return Err(ShapeFault::Shape);
     }
+    let terms = terms_at(table)?;
+    plant_at(alloc, terms, table)
+}
+
+/// What a plant file says besides its lists.
+#[derive(Clone, Copy)]
+pub struct Terms {
+    pub factor: u32,
+    pub window: u32,
+    pub red_max: u32,
+    pub orange: u32,
+    pub clocks: Clocks,
+    pub sync: RawSync,
+}
+
+/// What a plant file's table says besides its lists.
+fn terms_at(table: &Table) -> Result<Terms, ShapeFault>
+    ensures { Gives result (terms_at (table_view table.now)) }
+{
     let factor = number(table, "factor")?;
     let window = number(table, "window")?;
     let red_max = number(table, "red_max")?;
+    terms_timed(factor, window, red_max, table)
+}
+
+/// The terms after the first three numbers.
+fn terms_timed(factor: u32, window: u32, red_max: u32, table: &Table) -> Result<Terms, ShapeFault>
+    ensures { Gives result (terms_timed factor window red_max (table_view table.now)) }
+{
     let orange = number(table, "orange")?;
-    let clocks_name = text(table, "clocks").ok_or(ShapeFault::Shape)?;
-    let clocks = clocks_of(clocks_name).ok_or(ShapeFault::Shape)?;
+    let clocks = clocks_at(table)?;
     let sync = sync_at(table)?;
-    let devices = devices_at(alloc, table)?;
-    let links = links_at(alloc, table)?;
-    let demands = demands_at(alloc, table)?;
-    let traffic = traffic_at(alloc, table)?;
-    let apps = apps_at(alloc, table)?;
-    Ok(RawPlant {
+    Ok(Terms {
         factor,
         window,
         red_max,
         orange,
         clocks,
         sync,
+    })
+}
+
+/// Whose clocks are at `clocks`.
+fn clocks_at(table: &Table) -> Result<Clocks, ShapeFault>
+    ensures { Gives result (clocks_at (table_view table.now)) }
+{
+    match clocks_of(text_at(table, "clocks")?) {
+        Some(clocks) => Ok(clocks),
+        None => Err(ShapeFault::Shape),
+    }
+}
+
+/// The plant of these terms, with the lists of a table.
+fn plant_at(alloc: Global, terms: Terms, table: &Table) -> Result<RawPlant, ShapeFault>
+    ensures { Gives result (plant_at terms (table_view table.now)) }
+{
+    let devices = devices_at(alloc, table)?;
+    let links = links_at(alloc, table)?;
+    let demands = demands_at(alloc, table)?;
+    plant_wired(alloc, terms, devices, links, demands, table)
+}
+
+/// The plant of these terms and lists, with the other lists of a table.
+fn plant_wired(
+    alloc: Global,
+    terms: Terms,
+    devices: Items<RawDevice>,
+    links: Items<RawLink>,
+    demands: Items<RawDemand>,
+    table: &Table,
+) -> Result<RawPlant, ShapeFault>
+    ensures { Gives result (plant_wired terms devices links demands (table_view table.now)) }
+{
+    let traffic = traffic_at(alloc, table)?;
+    let apps = apps_at(alloc, table)?;
+    Ok(RawPlant {
+        factor: terms.factor,
+        window: terms.window,
+        red_max: terms.red_max,
+        orange: terms.orange,
+        clocks: terms.clocks,
+        sync: terms.sync,
         devices,
         links,
         demands,

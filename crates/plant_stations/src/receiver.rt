@@ -20,7 +20,7 @@ use std::alloc::Global;
 use std::marker::Model;
 
 /// The consumer of an app's device, with room for its image. A clause sees the consumer.
-#[derive(Drop, Debug)]
+#[derive(Drop)]
 pub struct Receiver {
     consumer: Consumer,
     room: Vec<u64>,

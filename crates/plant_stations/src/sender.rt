@@ -21,7 +21,7 @@ use std::alloc::Global;
 
 /// The provider of a device, with the places of the frames that it provides, by ascending FrameID. A frame's place is
 /// the number of its demand.
-#[derive(Drop, Debug)]
+#[derive(Drop)]
 pub struct Sender {
     pub provider: Provider,
     pub places: Items<usize>,

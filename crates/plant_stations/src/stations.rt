@@ -29,7 +29,7 @@ use std::alloc::Global;
 use std::marker::Model;
 
 /// The stations of a plant. A clause sees the plant, its blocks, the consumers and the frames.
-#[derive(Drop, Debug)]
+#[derive(Drop)]
 pub struct Stations {
     plant: Plant,
     bundles: Items<Bundle>,
@@ -63,11 +63,11 @@ impl Stations {
         ensures room { IfOk result (λ s. length s.frames ≡ length plant.now.demands) }
     {
         Ok(Stations {
-            plant: plant.deep_copy(alloc)?,
-            bundles: copy_items(alloc, bundles)?,
-            senders: senders(alloc, plant, bundles)?,
             receivers: receivers(alloc, plant.apps.as_slice(), bundles)?,
             frames: frames(alloc, plant.demands.as_slice())?,
+            senders: senders(alloc, plant, bundles)?,
+            bundles: copy_items(alloc, bundles)?,
+            plant: plant.deep_copy(alloc)?,
         })
     }
 

@@ -7,7 +7,7 @@ use crate::messages::{SyncMsg, TIME_END};
 use std::marker::Model;
 
 /// Makes the sync messages, numbered from 1. A clause sees how many it made.
-#[derive(Drop, Debug)]
+#[derive(Drop)]
 pub struct Master {
     sent: u32,
 }

@@ -7,7 +7,7 @@ use crate::messages::SyncMsg;
 use std::marker::Model;
 
 /// What happens to a slave.
-#[derive(Clone, Copy, Debug, PartialEq, Eq)]
+#[derive(Clone, Copy, PartialEq, Eq)]
 pub enum SyncEvent {
     /// A sync message came at `received` by the slave's clock, over a link of the delay `line`, in ns.
     Sync {
@@ -31,7 +31,7 @@ pub enum SyncState {
 }
 
 /// The message that was accepted last.
-#[derive(Clone, Copy, Debug, PartialEq, Eq)]
+#[derive(Clone, Copy, PartialEq, Eq)]
 pub struct Accepted {
     pub number: u32,
     pub cycle: u32,
@@ -40,7 +40,7 @@ pub struct Accepted {
 
 /// A slave. A clause sees what it was made with, the cycle that it was ticked last, 0 at first, and
 /// the message accepted last.
-#[derive(Drop, Debug)]
+#[derive(Drop)]
 pub struct Slave {
     send: u32,
     timeout: u16,

@@ -7,7 +7,7 @@ use iso_rules::turn::Turn;
 use record_text::record::Take;
 
 /// What a line says.
-#[derive(Debug, Drop)]
+#[derive(Drop)]
 pub enum Line {
     /// What was taken from the app on a device in a cycle.
     Take {

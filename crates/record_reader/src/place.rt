@@ -15,7 +15,7 @@ use record_laws::line::Line;
 use record_text::{cycle_of, lettered};
 
 /// What has been read of a record.
-#[derive(Clone, Copy, Debug, PartialEq, Eq)]
+#[derive(Clone, Copy, PartialEq, Eq)]
 pub(crate) enum Place {
     /// In a cycle the takes of the apps before this one.
     Takes {

@@ -11,7 +11,7 @@ use iso_rules::turn::Turn;
 use std::marker::Model;
 
 /// What was taken from an app's output exchange, with the words. A clause sees both.
-#[derive(Debug, Drop)]
+#[derive(Drop)]
 pub struct Take {
     taken: Taken,
     words: Items<u64>,
@@ -49,7 +49,7 @@ impl Take {
 
 /// What a record has of an app: takes of its output and images published to its input, each by cycle, and its turns by
 /// number. A clause sees the three lists.
-#[derive(Debug, Drop)]
+#[derive(Drop)]
 pub struct AppRecord {
     takes: Items<Take>,
     images: Items<Items<u64>>,
@@ -122,7 +122,7 @@ impl AppRecord {
 }
 
 /// The record of a run over so many cycles: of each app, in the plant's order, and the journal.
-#[derive(Debug, Drop)]
+#[derive(Drop)]
 pub struct Record {
     pub cycles: u32,
     pub apps: Items<AppRecord>,

@@ -12,7 +12,7 @@ pub const HEAD: usize = 16;
 pub const TAIL: usize = 4;
 
 /// A frame that was read. It borrows its data.
-#[derive(Clone, Copy, Debug, PartialEq, Eq)]
+#[derive(Clone, Copy, PartialEq, Eq)]
 pub struct Rtc3<'a> {
     /// The destination address, as it was read.
     pub destination: [u8; 6],

@@ -11,7 +11,7 @@ use std::alloc::Global;
 use std::marker::Model;
 
 /// One frame's bytes for each demand. A clause sees the list of them.
-#[derive(Drop, Debug)]
+#[derive(Drop)]
 pub struct Frames {
     frames: Vec<Vec<u8>>,
 }

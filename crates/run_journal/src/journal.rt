@@ -10,7 +10,7 @@ use std::alloc::Global;
 use std::marker::Model;
 
 /// What happened in a run, cycle by cycle. A clause sees the rows, and for how many more there is room.
-#[derive(Drop, Debug)]
+#[derive(Drop)]
 pub struct Journal {
     rows: Vec<JournalRow>,
 }

@@ -31,18 +31,3 @@ pub fn signed(x: u64, bound: u32) -> i64
     let shifted = x % span;
     shifted as i64 - i64::from(bound)
 }
-
-#[cfg(test)]
-mod tests {
-    use crate::{draw, mix, signed};
-
-    #[test]
-    fn published_values(rt: HostRuntime) {
-        assert_eq!(rt; mix(0), 0xe220_a839_7b1d_cdaf);
-        assert_eq!(rt; mix(1), 0x910a_2dec_8902_5cc1);
-        assert_eq!(rt; draw(0, 0, 0, 0), mix(mix(mix(mix(0)))));
-        for (x, bound, want) in [(0, 2, -2), (4, 2, 2), (5, 2, -2), (7, 2, 0), (9, 0, 0)] {
-            assert_eq!(rt; signed(x, bound), want, "{x} within {bound}");
-        }
-    }
-}

@@ -2,7 +2,7 @@
 
 /// A step of the producer (`Store`, `Publish`) or of the consumer (`Probe`, `Take`, `Load`). Places count
 /// from 0.
-#[derive(Clone, Copy, Debug, PartialEq, Eq)]
+#[derive(Clone, Copy, PartialEq, Eq)]
 pub enum Step {
     /// Writes a word of the draft row.
     Store { place: u16, word: u64 },

@@ -34,6 +34,11 @@ abbrev pub row_by : ℕ → List ℕ → List (List (Option ℤ)) → ℕ → Ro
 row_by window bridges errors cycle =
     record { errors = map (λ own. row_error window (error_at cycle own)) errors; bridges = bridges; cuts = [] }
 
+-- so many rows by those errors, with the bridge delays of the seeded world
+abbrev pub rows_by : ℕ → ℕ → List Forwarding → List (List (Option ℤ)) → ℕ → List Row
+rows_by window seed fs errors cycles =
+    map (λ cycle. row_by window (seeded_delays seed cycle fs) errors cycle) (range_with_len 0 cycles)
+
 -- the errors of all devices in a cycle
 abbrev pub row_errors : Domain → ℕ → List ℕ → ℕ → ℕ → List ℤ
 row_errors domain window timeouts devices cycle =

@@ -28,7 +28,7 @@ pub const DEPARTURES: u64 = 35;
 pub const DRIFTS: u64 = 36;
 
 /// A device's clock at the beginning of a cycle.
-#[derive(Clone, Copy, Debug, PartialEq, Eq)]
+#[derive(Clone, Copy, PartialEq, Eq)]
 pub struct Clock {
     /// How far its cycle begins after the true one, in ns.
     pub error: i64,

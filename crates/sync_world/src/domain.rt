@@ -17,7 +17,7 @@ use link_index::index::LinkIndex;
 use std::alloc::Global;
 
 /// How a device hears the master.
-#[derive(Debug, Drop)]
+#[derive(Drop)]
 pub struct ClockLine {
     /// The delay of the link to its parent, in ns, 0 at device 0.
     pub delay: u32,
@@ -26,7 +26,7 @@ pub struct ClockLine {
 }
 
 /// A sync domain.
-#[derive(Debug, Drop)]
+#[derive(Drop)]
 pub struct Domain {
     pub seed: u64,
     /// Cycles between two sync messages.

@@ -35,7 +35,7 @@ pub const STAY_TIME: u64 = 10000;
 pub const FIRST_EXCHANGES: u32 = 8;
 
 /// What a sync message meets at a device.
-#[derive(Clone, Copy, Debug, PartialEq, Eq)]
+#[derive(Clone, Copy, PartialEq, Eq)]
 pub struct Passage {
     /// What is known of the delay of the link to the device's parent, in ns.
     pub known: u32,
@@ -48,7 +48,7 @@ pub struct Passage {
 }
 
 /// What sync messages meet at one device.
-#[derive(Debug, Drop)]
+#[derive(Drop)]
 pub struct LinePassages {
     /// By sync message, from 0.
     pub passages: Items<Passage>,

@@ -19,7 +19,7 @@ use irt_route::clocks::{ClockTree, budget};
 use std::alloc::Global;
 
 /// What is said of a device.
-#[derive(Clone, Copy, Debug, PartialEq, Eq)]
+#[derive(Clone, Copy, PartialEq, Eq)]
 pub struct ReportLine {
     pub device: DevId,
     /// The links of its walk from device 0.

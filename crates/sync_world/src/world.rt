@@ -9,7 +9,7 @@ ghost use Rattle.irt_world.specs.declared.rows.Row.{Row};
 ghost use Rattle.plan_rules.specs.Plan.{IsPlan};
 ghost use Rattle.sync_world.specs.Domain.{IsDomain, domain_of};
 ghost use Rattle.sync_world.specs.Lines.{all_passages};
-ghost use Rattle.sync_world.specs.World.{ptcp_rows, all_errors, error_at, row_by, row_error, KeepsBudgets, HasBudgets, IsInStepAsHeard};
+ghost use Rattle.sync_world.specs.World.{ptcp_rows, all_errors, error_at, row_by, rows_by, row_error, KeepsBudgets, HasBudgets, IsInStepAsHeard};
 
 use crate::clocks::heard_errors;
 use crate::domain::{Domain, domain_of};
@@ -61,23 +61,62 @@ pub fn ptcp_world(
         IsInStepAsHeard plant.now bundles.now (domain_of seed plant.now tree.now send) timeouts.now cycle row) }
 {
     domains_have_bounds();
-    let domain = domain_of(alloc, seed, plant, tree, send)?;
-    let table = all_passages(alloc, &domain, cycles)?;
-    let errors = all_errors(alloc, &domain, table.as_slice(), timeouts, cycles)?;
+    let errors = domain_errors(alloc, seed, plant, tree, send, timeouts, cycles)?;
     let forwardings = Forwardings::new(alloc, plant, bundles)?;
     let forwardings = forwardings.as_slice();
+    let rows = rows_by(
+        alloc,
+        seed,
+        plant.window,
+        forwardings,
+        errors.as_slice(),
+        cycles,
+    )?;
+    Ok(World { rows })
+}
+
+/// The errors of each device in so many cycles, in the domain that a plant has by a seed.
+fn domain_errors(
+    alloc: Global,
+    seed: u64,
+    plant: &Plant,
+    tree: &ClockTree,
+    send: u32,
+    timeouts: &[u16],
+    cycles: u32,
+) -> Result<Items<Items<Option<i64>>>, NoMemory>
+    requires own { IsClockTreeOf plant.now tree.now }
+    requires some_send { 1 ≤ send }
+    requires send { send ≤ MAX_SEND }
+    requires count { length timeouts.now ≡ length plant.now.devices }
+    requires timeouts { All (λ timeout. timeout ≤ MAX_TIMEOUT) timeouts.now }
+    requires cycles { cycles ≤ MAX_CYCLES }
+    ensures value { IfOk result (λ made.
+        made ≡ all_errors (domain_of seed plant.now tree.now send) timeouts.now cycles) }
+    ensures valid { IfOk result (λ _. IsDomain (domain_of seed plant.now tree.now send)) }
+{
+    let domain = domain_of(alloc, seed, plant, tree, send)?;
+    let table = all_passages(alloc, &domain, cycles)?;
+    all_errors(alloc, &domain, table.as_slice(), timeouts, cycles)
+}
+
+/// So many rows, by the errors of each device in all cycles.
+fn rows_by(
+    alloc: Global,
+    seed: u64,
+    window: u32,
+    forwardings: &[Forwarding],
+    errors: &[Items<Option<i64>>],
+    cycles: u32,
+) -> Result<Items<Row>, NoMemory>
+    requires { All HasRange forwardings.now }
+    ensures { IfOk result (λ rows. rows ≡ rows_by window seed forwardings.now errors.now cycles) }
+{
     let mut rows = Items::with_capacity(alloc, cycles as usize)?;
     for cycle in 0..cycles {
-        rows.push(ptcp_row(
-            alloc,
-            seed,
-            plant.window,
-            forwardings,
-            errors.as_slice(),
-            cycle,
-        )?)?;
+        rows.push(ptcp_row(alloc, seed, window, forwardings, errors, cycle)?)?;
     }
-    Ok(World { rows })
+    Ok(rows)
 }
 
 /// The errors of each device in so many cycles, in ns, none where it is muted.

@@ -7,6 +7,4 @@
 pub mod pairs;
 pub mod slot;
 pub mod sweep;
-#[cfg(test)]
-mod tests;
 pub mod valid;

@@ -12,7 +12,7 @@ use irt_world::rows::Row;
 use std::alloc::Global;
 
 /// The values of a line up to the first wrong one.
-#[derive(Debug, Drop)]
+#[derive(Drop)]
 pub(crate) struct Draft {
     pub(crate) row: Row,
     /// The least number that the next cut link may have.

@@ -9,7 +9,7 @@ use crate::fault::Form;
 pub(crate) const FAR: u64 = 4294967296;
 
 /// A number of a line, whose size is at most `FAR`.
-#[derive(Clone, Copy, Debug, PartialEq, Eq)]
+#[derive(Clone, Copy, PartialEq, Eq)]
 pub(crate) struct Number {
     pub(crate) negative: bool,
     pub(crate) size: u64,
