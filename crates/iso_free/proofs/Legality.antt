@@ -102,13 +102,12 @@ module _ {A : Type 0} (reply : A → List ℕ → ℕ → List ℕ) (next : A �
       legal_same s r same (legal_there r (count ∙ ap (λ (p : Plant). length p.apps) (sym same.plant)) is)
 
 -- the same where a plant with these names was run
-pub legal_moved : {A : Type 0} (reply : A → List ℕ → ℕ → List ℕ) (next : A → List ℕ → ℕ → A) (firsts apps : List A) (v : PlantView) (plant : Plant) (bundles : List Bundle)
-    (walks : List (List PortNo)) (world : World) (r : Record) → v.plant ≡ plant → v.bundles ≡ bundles → v.walks ≡ walks → v.world ≡ world → firsts ≡ apps
+pub legal_moved : {A : Type 0} (reply : A → List ℕ → ℕ → List ℕ) (next : A → List ℕ → ℕ → A) (firsts : List A) (v : PlantView) (plant : Plant) (bundles : List Bundle)
+    (walks : List (List PortNo)) (world : World) (r : Record) → v.plant ≡ plant → v.bundles ≡ bundles → v.walks ≡ walks → v.world ≡ world
     → IsLegal reply next (setup_in v) (world_in v) firsts (IsRunJournal v.plant v.bundles v.walks v.world) (run_of r)
-    → IsLegal reply next (setup_of plant bundles) (world_rows plant bundles world) apps (IsRunJournal plant bundles walks world) (run_of r)
-legal_moved reply next firsts apps v plant bundles walks world r p b k w same legal =
-    subst (λ (l : List _). IsLegal reply next (setup_of plant bundles) (world_rows plant bundles world) l (IsRunJournal plant bundles walks world) (run_of r)) same
-    (legal_same reply next firsts None v (record v { plant = plant; bundles = bundles; walks = walks; world = world }) r (record { plant = p; bundles = b; walks = k; world = w }) legal)
+    → IsLegal reply next (setup_of plant bundles) (world_rows plant bundles world) firsts (IsRunJournal plant bundles walks world) (run_of r)
+legal_moved reply next firsts v plant bundles walks world r p b k w legal =
+    legal_same reply next firsts None v (record v { plant = plant; bundles = bundles; walks = walks; world = world }) r (record { plant = p; bundles = b; walks = k; world = w }) legal
 
 -- the number of cycles of a run by its name
 pub named_cycles : (start : Option PlantView) (s : PlantView) (n cycles : ℕ) → start ≡ Some s → n ≡ cycles_of start → cycles ≡ length s.world.rows → n ≡ cycles

@@ -1,7 +1,8 @@
 //! The end of a run: what it leaves behind.
 
-ghost use Rattle.std.specs.Prelude.{◌≡◌, ◌≤◌, All, IfOk, length, map};
+ghost use Rattle.std.specs.Prelude.{◌≡◌, ◌<◌, ◌≤◌, ℕ, [], All, IfOk, length, map, slice_index_or};
 ghost use Rattle.iso_plant.specs.Replay.{PlantView};
+ghost use Rattle.free_end.specs.Ended.{HasEnded, HasLegalLog};
 ghost use Rattle.free_plant.specs.Named.{app_count, cycles_of};
 ghost use Rattle.free_plant.specs.Views.{AreWires};
 ghost use Rattle.iso_free.specs.Record.{IsRecordOf, logs_of};
@@ -17,7 +18,7 @@ use irt_base::list::Items;
 use irt_base::memory::NoMemory;
 use iso_app::IsoApp;
 use iso_plant::history::AppHistory;
-use iso_plant::plant::History;
+use iso_plant::plant::{History, PlantState};
 use iso_rules::turn::Turn;
 use record_text::record::{AppRecord, Record};
 use std::alloc::Global;
@@ -43,15 +44,69 @@ pub fn end_run<A: IsoApp, N: Naming + Firsts<A>, R: Wait>(
     ensures { IfOk result (λ r. (v : PlantView) × IsRecordOf A.reply A.next_state N.firsts N.start v r) }
 {
     let mut locked = shared.into_locked();
-    last_cycles(rt, &mut locked, wires.as_slice())?;
+    match last_cycles(rt, &mut locked, wires.as_slice()) {
+        Ok(()) => close_run(alloc, locked, wires, jobs, cycles),
+        Err(_) => {
+            drop(locked);
+            drop(wires);
+            drop(jobs);
+            Err(NoMemory)
+        }
+    }
+}
+
+/// Closes all exchanges of a run whose cycles are all done, and gives the record.
+fn close_run<A: IsoApp, N: Naming + Firsts<A>>(
+    alloc: Global,
+    locked: Locked<N>,
+    wires: Vec<Wire<N>>,
+    jobs: Vec<Job<A, N>>,
+    cycles: u32,
+) -> Result<Record, NoMemory>
+    requires done { locked.plant.done ≡ cycles_of N.start }
+    requires wires { AreWires (app_count N.start) wires.items }
+    requires numbers { map (λ j. j.number) jobs.items ≡ wires.items }
+    requires found { All (λ j. j.found ≡ cycles_of N.start) jobs.items }
+    requires cycles { cycles ≡ cycles_of N.start }
+    requires some { 1 ≤ cycles }
+    ensures { IfOk result (λ r. (v : PlantView) × IsRecordOf A.reply A.next_state N.firsts N.start v r) }
+{
     let (plant, ports) = locked.into_parts();
-    let turns = end_all(alloc, &plant, wires, ports, jobs)?;
+    match end_all(alloc, &plant, wires, ports, jobs) {
+        Ok(turns) => record_run::<A, N>(alloc, plant, turns, cycles),
+        Err(_) => {
+            drop(plant);
+            Err(NoMemory)
+        }
+    }
+}
+
+/// The record of a plant that is done, with these turns.
+fn record_run<A: IsoApp, N: Naming + Firsts<A>>(
+    alloc: Global,
+    plant: PlantState,
+    turns: Items<Items<Turn>>,
+    cycles: u32,
+) -> Result<Record, NoMemory>
+    requires ended { HasEnded N.start plant }
+    requires cycles { cycles ≡ cycles_of N.start }
+    requires count { length turns ≡ length plant.plant.apps }
+    requires turns { (app : ℕ) → app < length turns →
+        HasLegalLog A.reply A.next_state N.firsts plant app (slice_index_or turns app []) }
+    ensures { IfOk result (IsRecordOf A.reply A.next_state N.firsts N.start plant) }
+{
     let History { apps, journal } = plant.into_history();
-    Ok(Record {
-        cycles,
-        apps: records(alloc, apps, turns)?,
-        journal,
-    })
+    match records(alloc, apps, turns) {
+        Ok(apps) => Ok(Record {
+            cycles,
+            apps,
+            journal,
+        }),
+        Err(_) => {
+            drop(journal);
+            Err(NoMemory)
+        }
+    }
 }
 
 /// Plays the cycles that are still lacking, once no thread runs.

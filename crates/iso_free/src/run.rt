@@ -5,7 +5,7 @@ ghost use Rattle.io_buffers.specs.Passes.{table_of};
 ghost use Rattle.irt_base.specs.declared.limits.TheConstants.{MAX_CYCLES};
 ghost use Rattle.irt_route.specs.Routes.{IsRoutesOf};
 ghost use Rattle.irt_world.specs.Rows.{Fits, world_rows};
-ghost use Rattle.iso_plant.specs.Replay.{setup_in, world_in};
+ghost use Rattle.iso_plant.specs.Replay.{PlantView, setup_in, world_in};
 ghost use Rattle.iso_rules.specs.Legal.{IsLegal};
 ghost use Rattle.iso_run.specs.Run.{IsRunJournal};
 ghost use Rattle.plan_rules.specs.Plan.{setup_of};
@@ -13,6 +13,7 @@ ghost use Rattle.record_text.specs.Text.{run_of};
 ghost use Rattle.free_plant.specs.Named.{app_count, cycles_of};
 ghost use Rattle.free_plant.specs.Views.{AreWires};
 ghost use Rattle.iso_free.specs.Opened.{AreOpened};
+ghost use Rattle.iso_free.specs.Record.{IsRecordOf};
 
 use crate::ending::end_run;
 use crate::opening::{OpenedApp, open_all};
@@ -64,9 +65,42 @@ pub fn run_free<A: IsoApp + Send, R: Threads + Wait + Sync>(
         (IsRunJournal accepted.now.plant accepted.now.bundles routes.now.walks world) (run_of r)) }
 {
     let cycles = world.rows.len() as u32;
-    let plant = PlantState::new(alloc, accepted, routes, world)?;
-    let openings = open_all(alloc, accepted, &plant, apps)?;
-    run_named::<A, Brand, R>(rt, alloc, plant, openings, cycles)
+    match PlantState::new(alloc, accepted, routes, world) {
+        Ok(plant) => open_run(rt, alloc, accepted, plant, apps, cycles),
+        Err(_) => {
+            drop(apps);
+            Err(NoMemory)
+        }
+    }
+}
+
+/// Opens the exchanges of all apps, and runs a plant that is at its begin.
+fn open_run<A: IsoApp + Send, R: Threads + Wait + Sync>(
+    rt: &R,
+    alloc: Global,
+    accepted: &Accepted,
+    plant: PlantState,
+    apps: Items<A>,
+    cycles: u32,
+) -> Result<Record, NoMemory>
+    requires plant { plant.plant ≡ accepted.now.plant }
+    requires bundles { plant.bundles ≡ accepted.now.bundles }
+    requires apps { length apps ≡ length accepted.now.plant.apps }
+    requires begun { plant.done ≡ 0 }
+    requires cycles { cycles ≡ length plant.world.rows }
+    requires some { 1 ≤ cycles }
+    requires few { cycles ≤ MAX_CYCLES }
+    ensures cycles { IfOk result (λ r. r.cycles ≡ cycles) }
+    ensures legal { IfOk result (λ r. IsLegal A.reply A.next_state (setup_in plant) (world_in plant) apps
+        (IsRunJournal plant.plant plant.bundles plant.walks plant.world) (run_of r)) }
+{
+    match open_all(alloc, accepted, &plant, apps) {
+        Ok(openings) => run_named::<A, Brand, R>(rt, alloc, plant, openings, cycles),
+        Err(_) => {
+            drop(plant);
+            Err(NoMemory)
+        }
+    }
 }
 
 /// Runs what was opened, under a name.
@@ -91,15 +125,48 @@ fn run_named<A: IsoApp + Send, N: Naming + Firsts<A> + Send + Sync, R: Threads +
     ensures legal { IfOk result (λ r. IsLegal A.reply A.next_state (setup_in plant) (world_in plant) N.firsts
         (IsRunJournal plant.plant plant.bundles plant.walks plant.world) (run_of r)) }
 {
-    let Parts {
-        wires,
-        ports,
-        buffers,
-        jobs,
-    } = part_all::<A, N>(alloc, openings)?;
-    let shared = Shared::new(Locked::new(plant, ports, buffers, cycles), cycles);
-    let jobs = in_threads(rt, alloc, &shared, wires.as_slice(), jobs)?;
-    end_run(rt, alloc, shared, wires, jobs, cycles)
+    match part_all::<A, N>(alloc, openings) {
+        Ok(
+            Parts {
+                wires,
+                ports,
+                buffers,
+                jobs,
+            },
+        ) => {
+            let shared = Shared::new(Locked::new(plant, ports, buffers, cycles), cycles);
+            run_shared(rt, alloc, shared, wires, jobs, cycles)
+        }
+        Err(_) => {
+            drop(plant);
+            Err(NoMemory)
+        }
+    }
+}
+
+/// Runs what is shared with the threads, and gives the record.
+fn run_shared<A: IsoApp + Send, N: Naming + Firsts<A> + Send + Sync, R: Threads + Wait + Sync>(
+    rt: &R,
+    alloc: Global,
+    shared: Shared<N>,
+    wires: Vec<Wire<N>>,
+    jobs: Vec<Job<A, N>>,
+    cycles: u32,
+) -> Result<Record, NoMemory>
+    requires wires { AreWires (app_count N.start) wires.items }
+    requires numbers { map (λ j. j.number) jobs.items ≡ wires.items }
+    requires cycles { cycles ≡ cycles_of N.start }
+    requires some { 1 ≤ cycles }
+    ensures { IfOk result (λ r. (v : PlantView) × IsRecordOf A.reply A.next_state N.firsts N.start v r) }
+{
+    match in_threads(rt, alloc, &shared, wires.as_slice(), jobs) {
+        Ok(jobs) => end_run(rt, alloc, shared, wires, jobs, cycles),
+        Err(_) => {
+            drop(shared);
+            drop(wires);
+            Err(NoMemory)
+        }
+    }
 }
 
 /// Runs all cycles and all turns, each app in its thread.

@@ -11,20 +11,20 @@ use Rattle.iso_free.proofs.run.run_named.Goals as goal
 
 pub new-requires-clause-buffers : goal.new-requires-clause-buffers
 new-requires-clause-buffers g c app below =
-    let begun = c.in_ok-wires.ensures {u = tt} in
+    let begun = c.in-Ok.ensures in
     let count = begun.buffers_count in
     begun.each_buffer app (omega (arith, below, count))
 
-pub returns-clause-cycles : goal.returns-clause-cycles
-returns-clause-cycles g c =
-    if_ok c.end_run.result (λ (r : Record). (v : PlantView) × IsRecordOf g.A.IsoApp.reply g.A.IsoApp.next_state g.N.Firsts.firsts g.N.Naming.start v r)
+pub returns-in-Ok-clause-cycles : goal.returns-in-Ok-clause-cycles
+returns-in-Ok-clause-cycles g c =
+    if_ok c.run_shared.result (λ (r : Record). (v : PlantView) × IsRecordOf g.A.IsoApp.reply g.A.IsoApp.next_state g.N.Firsts.firsts g.N.Naming.start v r)
     (λ (r : Record). r.cycles ≡ c.args.cycles)
-    (λ r h. named_cycles g.N.Naming.start c.args.plant r.cycles c.args.cycles c.requires.start h.1.cycles c.requires.cycles) c.end_run.ensures
+    (λ r h. named_cycles g.N.Naming.start c.args.plant r.cycles c.args.cycles c.requires.start h.1.cycles c.requires.cycles) c.run_shared.ensures
 
-pub returns-clause-legal : goal.returns-clause-legal
-returns-clause-legal g c =
+pub returns-in-Ok-clause-legal : goal.returns-in-Ok-clause-legal
+returns-in-Ok-clause-legal g c =
     let p = c.args.plant in
-    if_ok c.end_run.result (λ (r : Record). (v : PlantView) × IsRecordOf g.A.IsoApp.reply g.A.IsoApp.next_state g.N.Firsts.firsts g.N.Naming.start v r)
+    if_ok c.run_shared.result (λ (r : Record). (v : PlantView) × IsRecordOf g.A.IsoApp.reply g.A.IsoApp.next_state g.N.Firsts.firsts g.N.Naming.start v r)
     (λ (r : Record). IsLegal g.A.IsoApp.reply g.A.IsoApp.next_state (setup_in p) (world_in p) g.N.Firsts.firsts (IsRunJournal p.plant p.bundles p.walks p.world) (run_of r))
     (λ r h. legal_from g.A.IsoApp.reply g.A.IsoApp.next_state g.N.Firsts.firsts g.N.Naming.start h.0 p r c.requires.start
-    (ap (λ l. length l) (sym c.requires.firsts) ∙ (length-map c.args.openings.items (λ o. o.app) ∙ c.requires.count)) h.1) c.end_run.ensures
+    (ap (λ l. length l) (sym c.requires.firsts) ∙ (length-map c.args.openings.items (λ o. o.app) ∙ c.requires.count)) h.1) c.run_shared.ensures

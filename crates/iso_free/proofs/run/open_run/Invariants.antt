@@ -1,7 +1,7 @@
 use Rattle.std.proofs.Common.{map}
 use Rattle.std.specs.Prelude.{Some}
 use Rattle.io_buffers.specs.Passes.{table_of}
-use Rattle.iso_free.proofs.run.run_free.Given as goal
+use Rattle.iso_free.proofs.run.open_run.Given as goal
 
 abbrev pub ghosts-run_named-N-Naming : goal.ghosts-run_named-N-Naming
 ghosts-run_named-N-Naming g a = record {
